@@ -4,4 +4,5 @@ pub mod Full
 pub mod Listing
 pub mod Picking
 pub mod Setting
+pub mod Tables
 pub mod Visiting

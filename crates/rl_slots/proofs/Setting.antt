@@ -1,10 +1,10 @@
 -- One window or slot of a list is replaced by another.
-use Rattle.std.proofs.Common.{◌≡◌, ◌≢◌, ℕ, zero, suc, ◌≤◌, ◌<◌, ◌∷◌, ◌++◌, [], cond, List, slice_set, slice_index_or, length, map, Some, sym, ap, subst, ◌∙◌, arith}
+use Rattle.std.proofs.Common.{◌≡◌, ◌≢◌, ℕ, zero, suc, ◌≤◌, ◌<◌, ◌∷◌, ◌++◌, [], cond, Bor, List, get_or, slice_set, slice_index_or, length, ltb, map, Option, None, Some, is_some, refl, sym, ap, subst, ◌∙◌, arith}
 use Rattle.std.specs.Prelude.{slice_get}
 use Rattle.std.specs.List.{AllByRecursion, AllZip}
-use Rattle.std.specs.Option.{IfSome}
-use Rattle.std.proofs.lemmas.Bool.{ne_eqb}
-use Rattle.std.proofs.lemmas.Option.{none-some, IfSome_then}
+use Rattle.std.specs.Option.{option_copied, IfSome}
+use Rattle.std.proofs.lemmas.Bool.{ltb-false, ltb-true, ne_eqb}
+use Rattle.std.proofs.lemmas.Option.{none-some, slice_get_past, slice_get_read, IfSome_then}
 use Rattle.rl_query.specs.declared.query.Term.{Term}
 use Rattle.rl_windows.specs.Windows.{StandsFor}
 use Rattle.rl_windows.specs.declared.element.Element.{Element}
@@ -17,6 +17,11 @@ use Rattle.rl_slots.specs.declared.range_window.RangeWindow.{RangeWindow}
 
 some_same : {X : Type 0} (a b : X) → Some a ≡ Some b → a ≡ b
 some_same a b h = cc
+
+-- what was looked up in a list stands there
+pub item_at : {X : Type 0} (found : Option (Bor X)) (xs : List X) (i : ℕ) → is_some found ≡ ltb i (length xs) → IfSome found (λ x. x.now ≡ get_or xs i x.now) → option_copied found ≡ slice_get xs i
+item_at None xs i there is = sym (slice_get_past xs i (ltb-false i (length xs) (sym there)))
+item_at (Some x) xs i there is = sym (slice_get_read xs (length xs) i x.now refl (ltb-true i (length xs) (sym there)) is)
 
 -- what follows for each other item and for the new one follows for all
 set_all : {X : Type 0} (P Q : ℕ → X → Type 0) (xs : List X) (k : ℕ) (x y : X) → slice_get xs k ≡ Some x → ((i : ℕ) (z : X) → i ≢ k → P i z → Q i z) → (P k x → Q k y)

@@ -1,5 +1,5 @@
 //! The windows of a group's terms.
-ghost use Rattle.std.specs.Prelude.{◌≡◌, ◌≤◌, ◌<◌, ◌++◌, ℕ, List, length, map, slice_get, IfOk, IfSome, IsErrOf, OnErr, OnOk};
+ghost use Rattle.std.specs.Prelude.{◌≡◌, ◌≤◌, ◌<◌, ◌+◌, ◌++◌, ℕ, List, length, map, slice_get, IfOk, IfSome, IsErrOf, OnErr, OnOk};
 ghost use Rattle.std.specs.Bool.{Decides};
 ghost use Rattle.std.specs.List.{AllByRecursion, AllZip, sum_by};
 ghost use Rattle.rl_labels.specs.declared.entry.Entry.{Entry};
@@ -9,14 +9,15 @@ ghost use Rattle.rl_windows.specs.Ranges.{HasRuns};
 ghost use Rattle.rl_windows.specs.declared.element.Element.{Element};
 ghost use Rattle.rl_windows.specs.declared.range.RangeCode.{RangeCode};
 ghost use Rattle.rl_query.specs.declared.query.Term.{Term};
-ghost use Rattle.rl_slots.specs.Slots.{changes_in, key_of, outline, term_key, visits_by, visits_for, visits_of, with_element_at, AreExactIn, ArePicked, AreSums, HasVisits, IsFull, IsLive, IsNeededFrom, IsOfLine, IsPartialAt, IsSumAt, IsWindowOf, StandIn, ContentsIn};
+ghost use Rattle.rl_slots.specs.Slots.{changes_there, key_of, outline, selecting_in, term_key, visits_by, visits_for, visits_of, with_element_at, AreExactIn, ArePicked, AreSums, HasVisits, IsFull, IsLive, IsNeededFrom, IsOfLine, IsPartialAt, IsSumAt, IsWindowOf, StandIn, ContentsIn};
 ghost use Rattle.rl_slots.specs.declared.change.AddFault.TheVariants as adds;
 
 use crate::answer::{Answer, answer_of};
 use crate::change::{AddFault, Change};
+use crate::place::Place;
 use crate::range_window::RangeWindow;
 use rl_aggregate::Partial;
-use rl_labels::Ns;
+use rl_labels::{Labels, Ns};
 use rl_pipeline::{Meter, ParsedLine};
 use rl_plain::{PlainList, Same, Shared};
 use rl_query::Term;
@@ -88,29 +89,49 @@ impl Slot {
         self.reached <= t && self.terms.get().is_same(terms)
     }
 
-    // Lists what a line changes here.
-    pub(crate) fn list(
+    // Adds where the windows are here that select a stream.
+    pub(crate) fn select(
         &self,
         slot: usize,
+        labels: &Labels,
+        places: &mut Vec<Place>,
+    ) -> Result<(), AllocError>
+        ensures places { OnOk result (places.new.items ≡ places.old.items ++ selecting_in labels.now slot 0 self.now.windows) }
+        ensures few { OnOk result (length places.new.items ≤ length places.old.items + length self.now.terms) }
+    {
+        for (window, it) in self.windows.iter().enumerate() {
+            if !it.code.selector.accepts(labels)? {
+                continue;
+            }
+            places.push(Place { slot, window })?;
+        }
+        Ok(())
+    }
+
+    // Lists what a line changes in the window at a place, if there is one.
+    pub(crate) fn list(
+        &self,
+        place: Place,
         meter: &mut Meter,
         line: &mut ParsedLine<'_>,
         timestamp: Ns,
         changes: &mut Vec<Change>,
     ) -> Result<(), AllocError>
-        ensures listed { OnOk result (changes.new.items ≡ changes.old.items ++ changes_in line.old timestamp slot 0 self.now.windows) }
-        ensures runs { HasRuns (length self.now.terms) meter.old meter.new }
+        ensures listed { OnOk result (changes.new.items ≡ changes.old.items ++ changes_there line.old timestamp place (slice_get self.now.windows place.window)) }
+        ensures runs { HasRuns 1 meter.old meter.new }
         ensures line { line.new ≡ line.old }
     {
-        for (window, it) in self.windows.iter().enumerate() {
-            let Some(element) = it.element_of(meter, line, timestamp)? else {
-                continue;
-            };
-            changes.push(Change {
-                slot,
-                window,
-                element,
-            })?;
-        }
+        let Some(it) = self.windows.get(place.window) else {
+            return Ok(());
+        };
+        let Some(element) = it.element_of(meter, line, timestamp)? else {
+            return Ok(());
+        };
+        changes.push(Change {
+            slot: place.slot,
+            window: place.window,
+            element,
+        })?;
         Ok(())
     }
 
@@ -164,6 +185,7 @@ impl Slot {
         ensures most { (most : ℕ) → AllByRecursion (λ it. it.window.most ≡ most) self.old.windows → AllByRecursion (λ it. it.window.most ≡ most) self.new.windows }
         ensures visits { (entries : List Entry) → AreExactIn self.old.windows entries → HasVisits (sum_by (visits_for entries self.old.collected t) self.old.terms) meter.old meter.new }
         ensures runs { meter.new.runs ≡ meter.old.runs }
+        ensures ranges { map key_of self.new.windows ≡ map key_of self.old.windows }
         ensures asked { (self.new.number ≡ self.old.number) × (self.new.terms ≡ self.old.terms) × (self.new.reached ≡ t) }
         ensures collected { OnOk result (self.new.collected ≡ t) }
         ensures kept { OnErr result (self.new.collected ≡ self.old.collected) }

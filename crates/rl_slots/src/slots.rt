@@ -9,9 +9,13 @@ ghost use Rattle.rl_slots.specs.Slots.{changes_of, changes_of_all, collected_in,
 ghost use Rattle.rl_slots.specs.declared.change.AddFault.TheVariants as adds;
 
 use crate::answer::Answer;
+use crate::asked::AskedSlots;
 use crate::change::{AddFault, Change};
+use crate::place::Place;
 use crate::slot::Slot;
-use rl_labels::Ns;
+use crate::table::list_by;
+use indexmap::IndexMap;
+use rl_labels::{Labels, Ns};
 use rl_pipeline::{Meter, ParsedLine};
 use rl_plain::PlainList;
 use rl_query::Term;
@@ -22,18 +26,22 @@ use std::marker::Model;
 #[derive(Drop)]
 pub struct Slots {
     slots: Vec<Slot>,
+    // Where the windows are that select a stream, for each stream that had a line since a slot was set.
+    table: IndexMap<Labels, PlainList<Place>>,
 }
 
 impl Model for Slots {
     ghost use Rattle.std.specs.Prelude.{List};
     ghost use Rattle.std.specs.Coded.{coded_list};
-    ghost use Rattle.rl_slots.specs.Slots.{slot_code, SlotView};
+    ghost use Rattle.rl_slots.specs.Slots.{slot_code, IsTable, SlotView};
 
     ghost Value = { List SlotView };
 
     ghost coded = { coded_list slot_code };
 
     ghost view = { λ a. a.slots.items };
+
+    ghost invariant = { λ a. IsTable a.slots.items a.table.entries };
 }
 
 impl Slots {
@@ -43,6 +51,7 @@ impl Slots {
     {
         Slots {
             slots: Vec::new(alloc),
+            table: IndexMap::new(alloc),
         }
     }
 
@@ -72,22 +81,34 @@ impl Slots {
         Some(index)
     }
 
-    /// Lists what a line changes in all windows.
+    /// Lists what a line changes in all windows. Of a stream that had a line since a slot was set only those that select it are asked.
     pub fn list(
-        &self,
+        &mut self,
         meter: &mut Meter,
         line: &mut ParsedLine<'_>,
         timestamp: Ns,
         changes: &mut Vec<Change>,
     ) -> Result<(), AllocError>
-        ensures listed { OnOk result (changes.new.items ≡ changes.old.items ++ changes_of line.old timestamp self.now) }
-        ensures runs { HasRuns (term_count self.now) meter.old meter.new }
+        ensures listed { OnOk result (changes.new.items ≡ changes.old.items ++ changes_of line.old timestamp self.old) }
+        ensures same { self.new ≡ self.old }
+        ensures runs { HasRuns (term_count self.old) meter.old meter.new }
         ensures line { line.new ≡ line.old }
     {
-        for (index, slot) in self.slots.iter().enumerate() {
-            slot.list(index, meter, line, timestamp, changes)?;
-        }
-        Ok(())
+        list_by(
+            &mut self.table,
+            &self.slots,
+            meter,
+            line,
+            timestamp,
+            changes,
+        )
+    }
+
+    /// The slots, to ask them about many lines while they are borrowed.
+    pub fn asked(&self) -> AskedSlots<'_>
+        ensures { result ≡ self.now }
+    {
+        AskedSlots::new(*self.slots.allocator(), &self.slots)
     }
 
     /// The first timestamp that a window needs, in nanoseconds, if it is before another.
@@ -169,6 +190,7 @@ impl Slots {
             Some(index) => self.slots[index] = slot,
             None => self.slots.push(slot)?,
         }
+        self.table.clear();
         Ok(())
     }
 

@@ -177,3 +177,30 @@ returns-in_err-answer-clause-visits c = λ entries exact.
     let for_terms = terms-visits own.windows.items own.terms entries own.collected c.args.t c.self.invariant.picked in
     subst (λ (v : SlotView). HasVisits (sum_by (visits_for entries v.collected c.args.t) v.terms) c.args.meter.now c.collect_each.new.meter) c.self.view_is
     (few.0, omega (arith, few.1, for_terms, ap (λ ws. sum_by (visits_by entries own.collected c.args.t) (map key_of ws)) c.deref_mut.ensures.value))
+
+pub returns-in_err-partials-clause-ranges : goal.returns-in_err-partials-clause-ranges
+returns-in_err-partials-clause-ranges c =
+    let own = c.self.inside in
+    let same : own.windows.items ≡ c.args.self.now.windows = ap (λ (v : SlotView). v.windows) c.self.view_is in
+    let more = c.collect_each.new.windows in
+    let ranges : map key_of more ≡ map key_of own.windows.items = c.collect_each.ensures.ranges ∙ ap (map key_of) c.deref_mut.ensures.value in
+    let is = with_items_is own.windows more (omega (arith, own.windows.ok.0, length-map more key_of, ap length ranges, length-map own.windows.items key_of)) in
+    ap (map key_of) is ∙ ranges ∙ ap (map key_of) same
+
+pub returns-in_err-answer-clause-ranges : goal.returns-in_err-answer-clause-ranges
+returns-in_err-answer-clause-ranges c =
+    let own = c.self.inside in
+    let same : own.windows.items ≡ c.args.self.now.windows = ap (λ (v : SlotView). v.windows) c.self.view_is in
+    let more = c.collect_each.new.windows in
+    let ranges : map key_of more ≡ map key_of own.windows.items = c.collect_each.ensures.ranges ∙ ap (map key_of) c.deref_mut.ensures.value in
+    let is = with_items_is own.windows more (omega (arith, own.windows.ok.0, length-map more key_of, ap length ranges, length-map own.windows.items key_of)) in
+    ap (map key_of) is ∙ ranges ∙ ap (map key_of) same
+
+pub returns-clause-ranges : goal.returns-clause-ranges
+returns-clause-ranges c =
+    let own = c.self.inside in
+    let same : own.windows.items ≡ c.args.self.now.windows = ap (λ (v : SlotView). v.windows) c.self.view_is in
+    let more = c.collect_each.new.windows in
+    let ranges : map key_of more ≡ map key_of own.windows.items = c.collect_each.ensures.ranges ∙ ap (map key_of) c.deref_mut.ensures.value in
+    let is = with_items_is own.windows more (omega (arith, own.windows.ok.0, length-map more key_of, ap length ranges, length-map own.windows.items key_of)) in
+    ap (map key_of) is ∙ ranges ∙ ap (map key_of) same

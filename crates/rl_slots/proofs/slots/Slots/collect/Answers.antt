@@ -11,7 +11,15 @@ use Rattle.rl_aggregate.specs.Partials.{partial}
 use Rattle.rl_slots.specs.Slots.{collected_in, visits_for, AllStand, AreExact, AreExactIn, AreOfMost, HasVisits, SlotView}
 use Rattle.rl_slots.specs.laws.Living.{answered, collected-others, collected-own, collected-same, first_number}
 use Rattle.rl_slots.proofs.Setting.{at_place, set_keeps, set_seen, slot_moved}
+use Rattle.rl_slots.proofs.Tables.{table_kept}
 use Rattle.rl_slots.proofs.slots.Slots.collect.Goals as goal
+
+pub invariant_of-self : goal.invariant_of-self
+invariant_of-self c =
+    let slots = c.self.inside.slots.items in
+    let x = c.index_mut.result.now in
+    let there = slice_get_read slots (length slots) c.args.index x refl (omega (arith, c.requires.there, ap length c.self.view_is)) c.index_mut.ensures.value in
+    table_kept slots c.args.index x c.collect.new.self c.self.inside.table.entries there c.collect.ensures.asked.1 c.collect.ensures.ranges c.self.invariant
 
 pub returns-clause-partials : goal.returns-clause-partials
 returns-clause-partials c =

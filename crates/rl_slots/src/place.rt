@@ -1,0 +1,8 @@
+//! Where windows are.
+
+/// Where a window is: the index of its slot, and its own index there.
+#[derive(Clone, Copy)]
+pub struct Place {
+    pub slot: usize,
+    pub window: usize,
+}
