@@ -42,15 +42,16 @@ pub(crate) fn let_in(
 // What an entry changes in the windows.
 fn changes_of(
     alloc: Global,
-    slots: &Slots,
+    slots: &mut Slots,
     requests: &Requests,
     meter: &mut Meter,
     entry: &Entry,
 ) -> Result<Vec<Change>, AllocError>
     ensures covered { IfOk result (λ changes. covered requests.now entry.now ≡ true → changes.items ≡ []) }
-    ensures listed { IfOk result (λ changes. covered requests.now entry.now ≡ false → changes.items ≡ changes_of_all (entry.now ∷ []) slots.now) }
+    ensures listed { IfOk result (λ changes. covered requests.now entry.now ≡ false → changes.items ≡ changes_of_all (entry.now ∷ []) slots.old) }
     ensures lines { IfOk result (λ changes. AllByRecursion (λ change. IsOfLine change.element.volume) changes.items) }
-    ensures runs { HasRuns (term_count slots.now) meter.old meter.new }
+    ensures same { slots.new ≡ slots.old }
+    ensures runs { HasRuns (term_count slots.old) meter.old meter.new }
 {
     let mut changes = Vec::new(alloc);
     if requests.covers(entry)? {

@@ -12,7 +12,7 @@ use rl_labels::{Covers, Labels, Matcher, Ns, TimeRange};
 use rl_parts::{ReadFault, Visitor};
 use rl_pipeline::{Meter, ParsedLine};
 use rl_plain::PlainList;
-use rl_slots::{Change, Slots};
+use rl_slots::{AskedSlots, Change, Slots};
 use rl_streams::Streams;
 use std::alloc::{AllocError, Global};
 use std::marker::Model;
@@ -51,12 +51,13 @@ impl Listing {
     // Lists what a line changes in the windows.
     fn add(
         &mut self,
-        slots: &Slots,
+        slots: &mut AskedSlots<'_>,
         labels: &Labels,
         timestamp: Ns,
         text: &str,
     ) -> Result<(), AllocError>
-        ensures { OnOk result (self.new ≡ self.old ++ changes_of (record { labels = labels.now; text = text.now }) timestamp slots.now) }
+        ensures listed { OnOk result (self.new ≡ self.old ++ changes_of (record { labels = labels.now; text = text.now }) timestamp slots.old) }
+        ensures same { slots.new ≡ slots.old }
     {
         let mut line = ParsedLine::new(labels, text);
         slots.list(&mut self.meter, &mut line, timestamp, &mut self.changes)
@@ -66,19 +67,19 @@ impl Listing {
 // Lists what each visited line that turns changes in the windows.
 #[derive(Drop)]
 struct Lister<'a, C: Covers> {
-    slots: &'a Slots,
+    slots: AskedSlots<'a>,
     turning: &'a C,
     listing: Listing,
 }
 
 impl<'a, C: Covers> Visitor for Lister<'a, C> {
-    ghost visiting = { λ lister line. if C.covers_line lister.turning.now line.0 line.1.timestamp line.1.text then record { slots = lister.slots; turning = lister.turning; listing = with_line lister.slots.now lister.listing line } else lister };
+    ghost visiting = { λ lister line. if C.covers_line lister.turning.now line.0 line.1.timestamp line.1.text then record { slots = lister.slots; turning = lister.turning; listing = with_line lister.slots lister.listing line } else lister };
 
     fn visit(&mut self, labels: &Labels, timestamp: Ns, text: &str) -> Result<(), AllocError> {
         if !self.turning.covers_line(labels, timestamp, text)? {
             return Ok(());
         }
-        self.listing.add(self.slots, labels, timestamp, text)
+        self.listing.add(&mut self.slots, labels, timestamp, text)
     }
 }
 
@@ -107,7 +108,7 @@ pub(crate) fn changes_of_turned<S: Store, C: Covers>(
     }
     let needed = TimeRange { from, to: range.to };
     let mut lister = Lister {
-        slots,
+        slots: slots.asked(),
         turning,
         listing,
     };

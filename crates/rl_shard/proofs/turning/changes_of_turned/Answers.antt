@@ -48,9 +48,9 @@ returns-then-lt-clause-right g c honest =
 pub returns-clause-lines : goal.returns-clause-lines
 returns-clause-lines g c =
     let covers_line = g.C.Covers.covers_line c.args.turning.now in
-    let slots = c.args.slots.now in
+    let slots = c.asked.result in
     let given = c.in_ok-each.ensures.visited in
-    let make = λ (changes : List Change). let lister : Lister g.row.C.Denot = record { slots = c.args.slots; turning = c.args.turning; listing = changes } in lister in
+    let make = λ (changes : List Change). let lister : Lister g.row.C.Denot = record { slots = slots; turning = c.args.turning; listing = changes } in lister in
     let lines = flat_map (λ (of_row : List (LabelSet × Line)). of_row) given.lines in
     let is = ap (λ (lister : Lister g.row.C.Denot). lister.listing) (given.visited ∙ lists_all covers_line slots _ make (λ changes line. refl) c.args.listing lines) ∙ ap (λ changes. changes ++ changes_by covers_line slots lines) c.requires.empty in
     subst (AllByRecursion (λ (change : Change). IsOfLine change.element.volume)) (sym is)
@@ -63,9 +63,9 @@ returns-clause-right g c honest =
     let slots = c.args.slots.now in
     let held = c.args.streams.now.held in
     let once = c.in_ok-each.ensures.right honest in
-    let make = λ (changes : List Change). let lister : Lister g.row.C.Denot = record { slots = c.args.slots; turning = c.args.turning; listing = changes } in lister in
+    let make = λ (changes : List Change). let lister : Lister g.row.C.Denot = record { slots = c.asked.result; turning = c.args.turning; listing = changes } in lister in
     let lines = map visited once.order in
-    let is = ap (λ (lister : Lister g.row.C.Denot). lister.listing) (once.visited ∙ lists_all covers_line slots _ make (λ changes line. refl) c.args.listing lines) ∙ ap (λ changes. changes ++ changes_by covers_line slots lines) c.requires.empty in
+    let is = ap (λ (lister : Lister g.row.C.Denot). lister.listing) (once.visited ∙ lists_all covers_line c.asked.result _ make (λ changes line. refl) c.args.listing lines) ∙ ap (λ changes. changes ++ changes_by covers_line c.asked.result lines) c.requires.empty ∙ ap (λ now. changes_by covers_line now lines) c.asked.ensures in
     let is_first : c.in-Some.from ≡ c.max-first.result = c.in-Some.ensures.1 in
     let from : c.get-2.result ≡ c.args.range.from = c.get-2.ensures.value ∙ ap (λ (range : TimeRangeView). range.from) c.range.view_is in
     let is_max : c.max-first.result ≡ max c.first_needed.result c.get-2.result = c.max-first.ensures in
