@@ -1,12 +1,16 @@
 -- What is left of sinks that are pumped or closed, and of the books that have them.
-use Rattle.std.proofs.Common.{◌≡◌, ℕ, Bool, List, [], ◌∷◌, ◌++◌, map, length, take, drop, sym, ap, subst, ◌∙◌}
+use Rattle.std.proofs.Common.{◌≡◌, ℕ, zero, suc, Bool, List, [], ◌∷◌, ◌++◌, map, length, take, drop, Option, None, Some, IfSome, Result, option_map, slice_get, slice_set, sym, ap, subst, ◌∙◌}
 use Rattle.std.proofs.Math.Seq.{take-append_seam}
+use Rattle.std.proofs.lemmas.List.{map-set}
+use Rattle.std.proofs.lemmas.Option.{slice_get-map}
 use Rattle.std.specs.List.{AllByRecursion, AllZip}
+use Rattle.std.specs.Prelude.{⊤}
 use Rattle.rl_rules.specs.declared.evaluation.Evaluation.{Evaluation}
 use Rattle.rl_sinks.specs.SinkState.{SinkState, pumped, closed}
-use Rattle.rl_world.specs.Closed.{IsBookClosed, IsClosed, IsPumped}
+use Rattle.rl_sinks.specs.declared.sink.SinkFault.{SinkFault}
+use Rattle.rl_world.specs.Closed.{HasAnswered, IsBookClosed, IsClosed, IsPumped}
 use Rattle.rl_world.specs.Offering.{TookPrefix}
-use Rattle.rl_world.specs.WorldState.{BookState, IsBookOf}
+use Rattle.rl_world.specs.WorldState.{BookState, IsBookOf, with_sinks}
 
 -- what a sink is seen with after its pump or close says how that was answered
 pub is_pumped : (old new : SinkState) (failed : Bool) → new ≡ pumped old failed → IsPumped old new
@@ -44,3 +48,32 @@ books_of-closed shards [] [] closes all = tt
 books_of-closed shards (old ∷ olds) (new ∷ news) closes all = (book_of-closed shards old new closes.0 all.0, books_of-closed shards olds news closes.1 all.1)
 books_of-closed shards [] (new ∷ news) closes all = absurd closes
 books_of-closed shards (old ∷ olds) [] closes all = absurd closes
+
+-- ONE SINK
+
+no_item : {X : Type 0} (x : X) → None ≡ Some x → ⊥
+no_item x h = cc
+
+one_item : {X : Type 0} (x y : X) → Some x ≡ Some y → x ≡ y
+one_item x y h = cc
+
+-- one that was closed took what it took before
+pub took_prefix-at : {S : Type 0} (state : S → SinkState) (evaluations : List Evaluation) (sinks : List S) (k : ℕ) (own new : S) (failed : Bool) → slice_get sinks k ≡ Some own → state new ≡ closed (state own) failed
+    → AllByRecursion (TookPrefix evaluations) (map state sinks) → AllByRecursion (TookPrefix evaluations) (map state (slice_set sinks k new))
+took_prefix-at state evaluations [] k own new failed there is all = absurd (no_item own there)
+took_prefix-at state evaluations (sink ∷ sinks) zero own new failed there is all = (subst (TookPrefix evaluations) (sym (is ∙ ap (λ s. closed (state s) failed) (sym (one_item sink own there)))) all.0, all.1)
+took_prefix-at state evaluations (sink ∷ sinks) (suc k) own new failed there is all = (all.0, took_prefix-at state evaluations sinks k own new failed there is all.1)
+
+-- the book has it closed
+pub closed_view : {S : Type 0} (state : S → SinkState) (sinks : List S) (k : ℕ) (own new : S) (failed : Bool) → slice_get sinks k ≡ Some own → state new ≡ closed (state own) failed
+    → (book : BookState) → book.sinks ≡ map state sinks → IfSome (slice_get book.sinks k) (λ sink. with_sinks book (map state (slice_set sinks k new)) ≡ with_sinks book (slice_set book.sinks k (closed sink failed)))
+closed_view state sinks k own new failed there is book seen =
+    let here : slice_get book.sinks k ≡ Some (state own) = ap (λ (all : List SinkState). slice_get all k) seen ∙ slice_get-map state sinks k ∙ ap (option_map state) there in
+    subst (λ (found : Option SinkState). IfSome found (λ sink. with_sinks book (map state (slice_set sinks k new)) ≡ with_sinks book (slice_set book.sinks k (closed sink failed)))) (sym here)
+    (ap (with_sinks book) (map-set state sinks k new ∙ ap (λ (all : List SinkState). slice_set all k (state new)) (sym seen) ∙ ap (slice_set book.sinks k) is))
+
+-- and stands for its answer
+pub answered_at : {S : Type 0} (state : S → SinkState) (Says : S → Result ⊤ SinkFault → Type 0) (sinks : List S) (k : ℕ) (new : S) → HasAnswered state Says (state new) → IfSome (slice_get (map state (slice_set sinks k new)) k) (HasAnswered state Says)
+answered_at state Says [] k new says = tt
+answered_at state Says (sink ∷ sinks) zero new says = says
+answered_at state Says (sink ∷ sinks) (suc k) new says = answered_at state Says sinks k new says

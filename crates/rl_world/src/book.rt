@@ -1,11 +1,12 @@
 //! A book: one rule group, its history, and its sinks.
-ghost use Rattle.std.specs.Prelude.{◌≡◌, ◌≤◌, ◌<◌, ◌^◌, List, map, length, replicate, slice_get, option_map, option_and_then, IfOk, IfErr, OnOk, OnErr, IfSome, None, Some, is_some, false};
-ghost use Rattle.rl_sinks.specs.SinkState.{SinkState};
+ghost use Rattle.std.specs.Prelude.{◌≡◌, ◌≤◌, ◌<◌, ◌^◌, List, map, length, not, replicate, slice_get, slice_set, option_map, option_and_then, IfOk, IfErr, OnOk, OnErr, IfSome, None, Some, is_some, false};
+ghost use Rattle.rl_sinks.specs.SinkState.{SinkState, closed};
 ghost use Rattle.rl_sinks.specs.Texts.{tail_text};
 ghost use Rattle.rl_world.specs.BookCalls.{Refuses};
 ghost use Rattle.rl_world.specs.Closed.{HasAnswered, IsBookClosed, IsClosed, failures};
 ghost use Rattle.rl_world.specs.History.{asked_fault, closing_fault, has_passed, with_shown};
 ghost use Rattle.rl_world.specs.WorldRun.{ArePumped};
+ghost use Rattle.rl_world.specs.WorldState.{with_sinks};
 ghost use Rattle.std.specs.List.{AllByRecursion, AllZip, list_all};
 ghost use Rattle.std.specs.Option.{option_copied};
 ghost use Rattle.sha2.specs.Sha256.{sha256};
@@ -394,6 +395,15 @@ impl<S: Sink> Book<S> {
         ensures answers { AllByRecursion (HasAnswered S.state S.close_answers) self.new.sinks }
     {
         close_all(&mut self.sinks)
+    }
+
+    /// Closes a sink by its number. Whether it could write all.
+    pub fn close_sink(&mut self, sink: usize) -> bool
+        requires { sink < length self.old.sinks }
+        ensures closed { IfSome (slice_get self.old.sinks sink) (λ own. self.new ≡ with_sinks self.old (slice_set self.old.sinks sink (closed own (not result)))) }
+        ensures answer { IfSome (slice_get self.new.sinks sink) (HasAnswered S.state S.close_answers) }
+    {
+        self.sinks[sink].close().is_ok()
     }
 
     /// The sinks. All else is let go as it stands and is not taken apart, so its memory is given back with the process alone.

@@ -192,8 +192,8 @@ fn ask<D: Store>(
     }
 }
 
-// Whether two groups have one name.
-fn is_same_name(one: &Group, other: &Group) -> bool
+/// Whether two groups have one name.
+pub fn is_same_name(one: &Group, other: &Group) -> bool
     ensures { result ≡ is_text one.now.name other.now.name }
 {
     one.name.as_str() == other.name.as_str()

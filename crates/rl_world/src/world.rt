@@ -241,6 +241,15 @@ impl<D: Store, S: Sink> World<D, S> {
         self.parts.close_sinks()
     }
 
+    /// The shards and the books.
+    pub fn into_parts(self) -> (Vec<Shard<D>>, Vec<Book<S>>)
+        ensures shards { result.0.items ≡ self.shards }
+        ensures books { result.1.items ≡ self.books }
+    {
+        let WorldParts { shards, books } = self.parts;
+        (shards, books)
+    }
+
     /// The books. The shards are let go as they stand and are not taken apart, so their memory is given back with the process
     /// alone.
     pub fn into_books(self) -> Vec<Book<S>>
