@@ -222,7 +222,7 @@ const HIDDEN: &str = r#"{"streams":[{"stream":{"app":"a"},"values":[["4000000000
 const UNSEEN: &str = r#"{"streams":[{"stream":{"app":"a"},"values":[["7000000000","gone"]]}]}"#;
 
 // A shard that has answered how many lines it has: that of the chunk. Here and below there is nothing where memory runs out.
-fn live(alloc: Global) -> Option<Asking> {
+fn asked_twice(alloc: Global) -> Option<Asking> {
     let question = collect(alloc, &QUERIES, 15_000_000_000)?;
     let limits = Limits::check(DEFAULT_LIMITS).ok()?;
     let shard = Shard::open(alloc, MemStore::new(alloc), limits);
@@ -277,7 +277,7 @@ fn turns_each<L: Live>(rt: &impl Abort, shard: &mut L, steps: &[ShardStep], coun
 
 fn takes_lines(rt: &impl Abort, alloc: Global) -> Option<()> {
     let steps = pushes(alloc, PUSHED)?;
-    turns_each(rt, &mut live(alloc)?, &steps, &[21, 31, 31, 31]);
+    turns_each(rt, &mut asked_twice(alloc)?, &steps, &[21, 31, 31, 31]);
     Some(())
 }
 
@@ -301,7 +301,7 @@ fn turning(alloc: Global) -> Option<Vec<ShardStep>> {
 
 fn hides_lines(rt: &impl Abort, alloc: Global) -> Option<()> {
     let steps = turning(alloc)?;
-    turns_each(rt, &mut live(alloc)?, &steps, &[20, 10, 10, 31]);
+    turns_each(rt, &mut asked_twice(alloc)?, &steps, &[20, 10, 10, 31]);
     Some(())
 }
 
