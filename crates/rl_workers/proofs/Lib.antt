@@ -1,0 +1,6 @@
+pub mod Asked
+pub mod Books
+pub mod Committing
+pub mod Ending
+pub mod Gathering
+pub mod Noted

@@ -1,0 +1,4 @@
+pub mod Receipts
+pub mod Rulers
+pub mod Seats
+pub mod Closing
