@@ -4,7 +4,7 @@ use Rattle.std.specs.Prelude.{slice_get}
 use Rattle.std.specs.List.{AllByRecursion, AllZip}
 use Rattle.std.specs.Option.{IfSome, option_map}
 use Rattle.std.proofs.lemmas.List.{length-map}
-use Rattle.std.proofs.lemmas.Option.{slice_get-get_or, slice_get-map, slice_get_within}
+use Rattle.std.proofs.lemmas.Option.{same_Some, slice_get-get_or, slice_get-map, slice_get_within}
 use Rattle.rl_labels.specs.declared.entry.Entry.{Entry}
 use Rattle.rl_query.specs.declared.query.Term.{Term}
 use Rattle.rl_aggregate.specs.Partials.{partial}
@@ -17,9 +17,6 @@ use Rattle.rl_slots.specs.Slots.{key_of, term_key, AreExactIn, AreSums, Contents
 use Rattle.rl_slots.specs.declared.range_window.RangeWindow.{RangeWindow}
 use Rattle.rl_slots.proofs.Setting.{at_index}
 
-some_same : {X : Type 0} (a b : X) → Some a ≡ Some b → a ≡ b
-some_same a b h = cc
-
 -- the window at an index of a list
 pub found : (old windows : List RangeWindow) (indices : List ℕ) (i : ℕ) (d : RangeWindow) → i < length indices → AllByRecursion (λ index. index < length old) indices → map key_of windows ≡ map key_of old
     → slice_get windows (slice_index_or indices i 0) ≡ Some (slice_index_or windows (slice_index_or indices i 0) d)
@@ -30,7 +27,7 @@ found old windows indices i d less within same =
 pub shows_at : (old windows : List RangeWindow) (entries : List Entry) (t k : ℕ) (x : RangeWindow) (shown : Partial) → slice_get windows k ≡ Some x → map key_of windows ≡ map key_of old → AreExactIn windows entries
     → ((term : Term) (entries : List Entry) → term.range.seconds ≡ x.window.seconds → StandsFor x.window (elements_for (code_of term) entries) → shown ≡ partial entries term t) → IsPartialAt old entries t k shown
 shows_at old windows entries t k x shown there same exact shows term is =
-    let key : key_of x ≡ term_key term = some_same (key_of x) (term_key term) (sym (slice_get-map key_of windows k ∙ ap (option_map key_of) there) ∙ ap (λ keys. slice_get keys k) same ∙ is) in
+    let key : key_of x ≡ term_key term = same_Some (key_of x) (term_key term) (sym (slice_get-map key_of windows k ∙ ap (option_map key_of) there) ∙ ap (λ keys. slice_get keys k) same ∙ is) in
     let stands : StandsFor x.window (elements_for x.code entries) = subst (λ o. IfSome o (λ it. StandsFor it.window (elements_for it.code entries))) there (exact k) in
     shows term entries (sym (ap (λ (p : RangeCode × ℕ). p.1) key)) (subst (λ c. StandsFor x.window (elements_for c entries)) (ap (λ (p : RangeCode × ℕ). p.0) key) stands)
 
@@ -38,7 +35,7 @@ shows_at old windows entries t k x shown there same exact shows term is =
 pub sums_at : (old windows : List RangeWindow) (contents : ContentsIn) (t k : ℕ) (x : RangeWindow) (shown : Partial) → slice_get windows k ≡ Some x → map key_of windows ≡ map key_of old → StandIn windows contents
     → ((es : List Element) → StandsFor x.window es → shown ≡ in_range x.window.seconds t es) → IsSumAt old t contents k shown
 sums_at old windows contents t k x shown there same stand sums term is =
-    let key : key_of x ≡ term_key term = some_same (key_of x) (term_key term) (sym (slice_get-map key_of windows k ∙ ap (option_map key_of) there) ∙ ap (λ keys. slice_get keys k) same ∙ is) in
+    let key : key_of x ≡ term_key term = same_Some (key_of x) (term_key term) (sym (slice_get-map key_of windows k ∙ ap (option_map key_of) there) ∙ ap (λ keys. slice_get keys k) same ∙ is) in
     let stands : StandsFor x.window (contents k x.code) = subst (λ o. IfSome o (λ it. StandsFor it.window (contents k it.code))) there (stand k) in
     sums (contents k x.code) stands ∙ ap (λ (p : RangeCode × ℕ). in_range p.1 t (contents k p.0)) key
 

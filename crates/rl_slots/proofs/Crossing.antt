@@ -17,7 +17,7 @@ use Rattle.rl_query.proofs.Crossing as queries
 use Rattle.rl_windows.proofs.window.Window.TheSendSync as window
 use Rattle.rl_windows.specs.contracts.range.RangeCode as RangeCode
 use Rattle.rl_slots.specs.contracts.range_window.RangeWindow as RangeWindow
-use Rattle.rl_slots.specs.contracts.place.Place as Place
+use Rattle.rl_slots.specs.contracts.window_index.WindowIndex as WindowIndex
 use Rattle.rl_slots.specs.contracts.slot.Slot as Slot
 use Rattle.rl_slots.specs.contracts.slot.Slot.TheInside as slot
 use Rattle.rl_slots.specs.contracts.slots.Slots as Slots
@@ -37,18 +37,18 @@ fields-send =
 Slot-send : IsSend Slot.the_row
 Slot-send = view_send _ _ _ _ _ fields-send
 
-Place-send : IsSend Place.the_row
-Place-send = search sendable depth 20
+WindowIndex-send : IsSend WindowIndex.the_row
+WindowIndex-send = search sendable depth 20
 
-places-send : IsSend (PlainList.the_row Place.the_row)
-places-send = let one = Place-send in search (list.the_send, sendable, heap.crosses) depth 20
+indices-send : IsSend (PlainList.the_row WindowIndex.the_row)
+indices-send = let one = WindowIndex-send in search (list.the_send, sendable, heap.crosses) depth 20
 
 all_fields-send : IsSend inside.the_row
 all_fields-send =
     let one = Slot-send in
     let slots : IsSend (Vec.the_field Slot.the_row Global.the_row allocator.ghosts).row = search (one, sendable, heap.crosses) depth 20 in
     let builder : IsSend (BuildHasherDefault.the_row FoldHasher.the_row) = search sendable depth 20 in
-    let table = index_map.the_send _ _ _ _ FoldHasher.the_row _ _ _ _ _ label_sets.the_send places-send builder heap.send heap.frees in
+    let table = index_map.the_send _ _ _ _ FoldHasher.the_row _ _ _ _ _ label_sets.the_send indices-send builder heap.send heap.frees in
     recorded_send (inside.the_field).row _ _ (inside.the_type).to_one (struct_send (shape inside.the_type) (slots, (table, tt)))
 
 pub Slots-send : IsSend Slots.the_row

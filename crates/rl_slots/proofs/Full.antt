@@ -14,7 +14,7 @@ use Rattle.rl_windows.specs.declared.element.Element.{Element}
 use Rattle.rl_windows.specs.declared.range.RangeCode.{RangeCode}
 use Rattle.rl_windows.specs.laws.Alike.{count-filter}
 use Rattle.rl_slots.specs.Slots.{changes_from, changes_in, changes_of, changes_of_all, line_of, outline, wanted, with_change, with_changes, with_element_at, AllStand, AreOfMost, Contents, IsFull, IsOfLine, SlotView, StandIn}
-use Rattle.rl_slots.specs.laws.Alike.{at_place, total, total-append, total-cons}
+use Rattle.rl_slots.specs.laws.Alike.{at_index, total, total-append, total-cons}
 use Rattle.rl_slots.specs.laws.Exact.{changed_at, changes_of_all-lines, eqb-self, line_at, of_both, own, put, range_there, IsLineAt}
 use Rattle.rl_slots.specs.laws.Living.{most-outline}
 use Rattle.rl_slots.specs.declared.change.Change.{Change}
@@ -188,11 +188,11 @@ module _ (gained entries : List Entry) (slots : List SlotView) (n : ℕ) (change
         → AllStand others so_far → IfSome (slice_get others change.slot) (λ slot. IfSome (slice_get slot.windows change.window) IsFull) → most < length gained + length entries
     at_window slot own_slot it own_it there window own_there own_window stand full =
         let is_full : IsFull own_it = subst (λ o. IfSome o IsFull) own_window (subst (λ o. IfSome o (λ slot. IfSome (slice_get slot.windows change.window) IsFull)) own_there full) in
-        let each_most = at_place (λ (slot : SlotView). AllByRecursion (λ it. it.window.most ≡ most) slot.windows) others change.slot own_slot own_there (most-outline slots others same most of_most) in
-        let is_most = at_place (λ (it : RangeWindow). it.window.most ≡ most) own_slot.windows change.window own_it own_window each_most in
+        let each_most = at_index (λ (slot : SlotView). AllByRecursion (λ it. it.window.most ≡ most) slot.windows) others change.slot own_slot own_there (most-outline slots others same most of_most) in
+        let is_most = at_index (λ (it : RangeWindow). it.window.most ≡ most) own_slot.windows change.window own_it own_window each_most in
         let in_slot : StandIn own_slot.windows (so_far change.slot) = subst (λ o. IfSome o (λ slot. StandIn slot.windows (so_far change.slot))) own_there (stand change.slot) in
         let stands = subst (λ o. IfSome o (λ it. StandsFor it.window (so_far change.slot change.window it.code))) own_window (in_slot change.window) in
-        let line = at_place (λ (c : Change). IsOfLine c.element.volume) (changes_of_all gained slots) n change change_there (changes_of_all-lines gained slots) in
+        let line = at_index (λ (c : Change). IsOfLine c.element.volume) (changes_of_all gained slots) n change change_there (changes_of_all-lines gained slots) in
         omega (arith, is_full, is_most, few_at slot it own_it there window less is line stands)
 
 -- where the changes of entries before one went in and its window is full, these entries and those that the windows stood for are more
@@ -203,6 +203,6 @@ pub full-many : (gained entries : List Entry) (slots others : List SlotView) (n 
     → IfSome (slice_get others change.slot) (λ slot. IfSome (slice_get slot.windows change.window) IsFull) → most < length gained + length entries
 full-many gained entries slots others n change most same of_most less is stand full =
     let each = at_all (IsThere slots) gained slots (λ s w slot it there window. (slot, there, (it, window))) in
-    let placed : IsThere slots change.slot change.window = at_place (λ (c : Change). IsThere slots c.slot c.window) (changes_of_all gained slots) n change (change_there gained entries slots n change others most same of_most less is) each in
-    let here = range_there others slots change.slot change.window placed.0 placed.2.0 (sym same) placed.1 placed.2.1 in
-    at_window gained entries slots n change others most same of_most less is placed.0 here.0 placed.2.0 here.2.0 placed.1 placed.2.1 here.1 here.2.1 stand full
+    let indexed : IsThere slots change.slot change.window = at_index (λ (c : Change). IsThere slots c.slot c.window) (changes_of_all gained slots) n change (change_there gained entries slots n change others most same of_most less is) each in
+    let here = range_there others slots change.slot change.window indexed.0 indexed.2.0 (sym same) indexed.1 indexed.2.1 in
+    at_window gained entries slots n change others most same of_most less is indexed.0 here.0 indexed.2.0 here.2.0 indexed.1 indexed.2.1 here.1 here.2.1 stand full

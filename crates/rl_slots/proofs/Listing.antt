@@ -14,21 +14,21 @@ use Rattle.rl_windows.specs.declared.element.Element.{Element}
 use Rattle.rl_slots.specs.Slots.{changes_at, changes_from, changes_in, changes_of, changes_there, selecting_from, selecting_in, term_count, wanted, window_at, window_in, with_change, with_changes, Contents, SlotView}
 use Rattle.rl_slots.specs.laws.Exact.{own, with_changes-append}
 use Rattle.rl_slots.specs.declared.change.Change.{Change}
-use Rattle.rl_slots.specs.declared.place.Place.{Place}
+use Rattle.rl_slots.specs.declared.window_index.WindowIndex.{WindowIndex}
 use Rattle.rl_slots.specs.declared.range_window.RangeWindow.{RangeWindow}
 
--- PLACES
+-- INDICES
 
 module _ (labels : LabelSet) where
-  -- the place of a window that selects the stream, and none of another
-  abbrev pub place_if : (slot window : ℕ) → RangeWindow → List Place
-  place_if slot window it = cond (selects it.code.selector labels) (record { slot = slot; window = window } ∷ []) []
+  -- the index of a window that selects the stream, and none of another
+  abbrev pub index_if : (slot window : ℕ) → RangeWindow → List WindowIndex
+  index_if slot window it = cond (selects it.code.selector labels) (record { slot = slot; window = window } ∷ []) []
 
   selecting_in-append : (slot first : ℕ) (xs ys : List RangeWindow) → selecting_in labels slot first (xs ++ ys) ≡ selecting_in labels slot first xs ++ selecting_in labels slot (first + length xs) ys
   selecting_in-append slot first [] ys = ap (λ n. selecting_in labels slot n ys) (omega arith)
   selecting_in-append slot first (x ∷ xs) ys =
-      ap (λ rest. place_if slot first x ++ rest) (selecting_in-append slot (suc first) xs ys ∙ ap (λ n. selecting_in labels slot (suc first) xs ++ selecting_in labels slot n ys) (omega arith))
-      ∙ sym (append_assoc (place_if slot first x) (selecting_in labels slot (suc first) xs) (selecting_in labels slot (first + length (x ∷ xs)) ys))
+      ap (λ rest. index_if slot first x ++ rest) (selecting_in-append slot (suc first) xs ys ∙ ap (λ n. selecting_in labels slot (suc first) xs ++ selecting_in labels slot n ys) (omega arith))
+      ∙ sym (append_assoc (index_if slot first x) (selecting_in labels slot (suc first) xs) (selecting_in labels slot (first + length (x ∷ xs)) ys))
 
   selecting_from-append : (first : ℕ) (xs ys : List SlotView) → selecting_from labels first (xs ++ ys) ≡ selecting_from labels first xs ++ selecting_from labels (first + length xs) ys
   selecting_from-append first [] ys = ap (λ n. selecting_from labels n ys) (omega arith)
@@ -43,7 +43,7 @@ module _ (labels : LabelSet) where
       ap (selecting_in labels slot 0) (take_more windows n it less ∙ ap (λ x. take n windows ++ x ∷ []) (sym there))
       ∙ selecting_in-append slot 0 (take n windows) (it ∷ [])
       ∙ ap (λ m. selecting_in labels slot 0 (take n windows) ++ selecting_in labels slot m (it ∷ [])) (omega (arith, length-take-le n windows (omega (arith, less))))
-      ∙ ap (λ rest. selecting_in labels slot 0 (take n windows) ++ rest) (append-nil (place_if slot n it) ∙ ap (λ b. cond b (record { slot = slot; window = n } ∷ []) []) (sym is))
+      ∙ ap (λ rest. selecting_in labels slot 0 (take n windows) ++ rest) (append-nil (index_if slot n it) ∙ ap (λ b. cond b (record { slot = slot; window = n } ∷ []) []) (sym is))
 
   -- one slot more
   pub one_slot : (n : ℕ) (slots : List SlotView) (slot : SlotView) → n < length slots → slot ≡ get_or slots n slot
@@ -54,23 +54,23 @@ module _ (labels : LabelSet) where
       ∙ ap (λ m. selecting_from labels 0 (take n slots) ++ selecting_from labels m (slot ∷ [])) (omega (arith, length-take-le n slots (omega (arith, less))))
       ∙ ap (λ rest. selecting_from labels 0 (take n slots) ++ rest) (append-nil (selecting_in labels n 0 slot.windows))
 
-  -- there are no more places than windows
-  pub places_few : (slot first : ℕ) (windows : List RangeWindow) → length (selecting_in labels slot first windows) ≤ length windows
-  places_few slot first [] = omega arith
-  places_few slot first (it ∷ windows) = omega (arith, length-append (place_if slot first it) (selecting_in labels slot (suc first) windows), one (selects it.code.selector labels), places_few slot (suc first) windows)
+  -- there are no more indices than windows
+  pub indices_few : (slot first : ℕ) (windows : List RangeWindow) → length (selecting_in labels slot first windows) ≤ length windows
+  indices_few slot first [] = omega arith
+  indices_few slot first (it ∷ windows) = omega (arith, length-append (index_if slot first it) (selecting_in labels slot (suc first) windows), one (selects it.code.selector labels), indices_few slot (suc first) windows)
     where
-      one : (b : Bool) → length {A = Place} (cond b (record { slot = slot; window = first } ∷ []) []) ≤ 1
+      one : (b : Bool) → length {A = WindowIndex} (cond b (record { slot = slot; window = first } ∷ []) []) ≤ 1
       one true = omega arith
       one false = omega arith
 
--- what a line changes at one place more
-pub one_place_more : (line : StreamLine) (timestamp : ℕ) (slots : List SlotView) (n : ℕ) (places : List Place) (other : Place) → n < length places
-    → changes_at line timestamp slots (take (n + 1) places) ≡ changes_at line timestamp slots (take n places) ++ changes_there line timestamp (get_or places n other) (window_at slots (get_or places n other))
-one_place_more line timestamp slots n places other less =
-    let place = get_or places n other in
-    ap (changes_at line timestamp slots) (take_more places n other less)
-    ∙ flat_map-append (λ (p : Place). changes_there line timestamp p (window_at slots p)) (take n places) (place ∷ [])
-    ∙ ap (λ rest. changes_at line timestamp slots (take n places) ++ rest) (append-nil (changes_there line timestamp place (window_at slots place)))
+-- what a line changes at one index more
+pub one_index_more : (line : StreamLine) (timestamp : ℕ) (slots : List SlotView) (n : ℕ) (indices : List WindowIndex) (other : WindowIndex) → n < length indices
+    → changes_at line timestamp slots (take (n + 1) indices) ≡ changes_at line timestamp slots (take n indices) ++ changes_there line timestamp (get_or indices n other) (window_at slots (get_or indices n other))
+one_index_more line timestamp slots n indices other less =
+    let index = get_or indices n other in
+    ap (changes_at line timestamp slots) (take_more indices n other less)
+    ∙ flat_map-append (λ (p : WindowIndex). changes_there line timestamp p (window_at slots p)) (take n indices) (index ∷ [])
+    ∙ ap (λ rest. changes_at line timestamp slots (take n indices) ++ rest) (append-nil (changes_there line timestamp index (window_at slots index)))
 
 -- the terms of one slot more
 pub count_more : (n : ℕ) (slots : List SlotView) (slot : SlotView) → n < length slots → slot ≡ get_or slots n slot → term_count (take (n + 1) slots) ≡ term_count (take n slots) + length slot.terms
@@ -92,25 +92,25 @@ not_wanted line timestamp it not =
     none false = refl
 
 module _ (line : StreamLine) (timestamp : ℕ) (slots : List SlotView) where
-  abbrev here : Place → List Change
-  here place = changes_there line timestamp place (window_at slots place)
+  abbrev here : WindowIndex → List Change
+  here index = changes_there line timestamp index (window_at slots index)
 
-  one_place : (slot window : ℕ) (it : RangeWindow) → window_at slots (record { slot = slot; window = window }) ≡ Some it → flat_map here (place_if line.labels slot window it) ≡ own line timestamp slot window it
-  one_place slot window it there = by (selects it.code.selector line.labels) refl
+  one_index : (slot window : ℕ) (it : RangeWindow) → window_at slots (record { slot = slot; window = window }) ≡ Some it → flat_map here (index_if line.labels slot window it) ≡ own line timestamp slot window it
+  one_index slot window it there = by (selects it.code.selector line.labels) refl
     where
-      place : Place
-      place = record { slot = slot; window = window }
+      index : WindowIndex
+      index = record { slot = slot; window = window }
 
-      by : (b : Bool) → selects it.code.selector line.labels ≡ b → flat_map here (cond b (place ∷ []) []) ≡ own line timestamp slot window it
-      by true is = append-nil (here place) ∙ ap (changes_there line timestamp place) there
+      by : (b : Bool) → selects it.code.selector line.labels ≡ b → flat_map here (cond b (index ∷ []) []) ≡ own line timestamp slot window it
+      by true is = append-nil (here index) ∙ ap (changes_there line timestamp index) there
       by false is = ap (λ found. map (λ (element : Element). record { slot = slot; window = window; element = element }) (option_to_list found)) (sym (not_wanted line timestamp it is))
 
   of_windows : (slot first : ℕ) (windows : List RangeWindow) → ((i : ℕ) → window_at slots (record { slot = slot; window = first + i }) ≡ slice_get windows i)
       → flat_map here (selecting_in line.labels slot first windows) ≡ changes_in line timestamp slot first windows
   of_windows slot first [] there = refl
   of_windows slot first (it ∷ windows) there =
-      flat_map-append here (place_if line.labels slot first it) (selecting_in line.labels slot (suc first) windows)
-      ∙ ap (λ xs. xs ++ flat_map here (selecting_in line.labels slot (suc first) windows)) (one_place slot first it (ap (λ n. window_at slots (record { slot = slot; window = n })) (omega arith) ∙ there 0))
+      flat_map-append here (index_if line.labels slot first it) (selecting_in line.labels slot (suc first) windows)
+      ∙ ap (λ xs. xs ++ flat_map here (selecting_in line.labels slot (suc first) windows)) (one_index slot first it (ap (λ n. window_at slots (record { slot = slot; window = n })) (omega arith) ∙ there 0))
       ∙ ap (λ rest. own line timestamp slot first it ++ rest) (of_windows slot (suc first) windows (λ i. ap (λ n. window_at slots (record { slot = slot; window = n })) (omega arith) ∙ there (suc i)))
 
   of_slots : (first : ℕ) (rest : List SlotView) → ((i : ℕ) → slice_get slots (first + i) ≡ slice_get rest i) → flat_map here (selecting_from line.labels first rest) ≡ changes_from line timestamp first rest

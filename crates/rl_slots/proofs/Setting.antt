@@ -4,7 +4,7 @@ use Rattle.std.specs.Prelude.{slice_get}
 use Rattle.std.specs.List.{AllByRecursion, AllZip}
 use Rattle.std.specs.Option.{option_copied, IfSome}
 use Rattle.std.proofs.lemmas.Bool.{ltb-false, ltb-true, ne_eqb}
-use Rattle.std.proofs.lemmas.Option.{none-some, slice_get_past, slice_get_read, IfSome_then}
+use Rattle.std.proofs.lemmas.Option.{none-some, same_Some, slice_get_past, slice_get_read, IfSome_then}
 use Rattle.rl_query.specs.declared.query.Term.{Term}
 use Rattle.rl_windows.specs.Windows.{StandsFor}
 use Rattle.rl_windows.specs.declared.element.Element.{Element}
@@ -15,9 +15,6 @@ pub use Rattle.rl_slots.specs.laws.Living.{all_one_more, set_keeps, set_seen}
 use Rattle.rl_slots.specs.declared.change.Change.{Change}
 use Rattle.rl_slots.specs.declared.range_window.RangeWindow.{RangeWindow}
 
-some_same : {X : Type 0} (a b : X) → Some a ≡ Some b → a ≡ b
-some_same a b h = cc
-
 -- what was looked up in a list stands there
 pub item_at : {X : Type 0} (found : Option (Bor X)) (xs : List X) (i : ℕ) → is_some found ≡ ltb i (length xs) → IfSome found (λ x. x.now ≡ get_or xs i x.now) → option_copied found ≡ slice_get xs i
 item_at None xs i there is = sym (slice_get_past xs i (ltb-false i (length xs) (sym there)))
@@ -27,7 +24,7 @@ item_at (Some x) xs i there is = sym (slice_get_read xs (length xs) i x.now refl
 set_all : {X : Type 0} (P Q : ℕ → X → Type 0) (xs : List X) (k : ℕ) (x y : X) → slice_get xs k ≡ Some x → ((i : ℕ) (z : X) → i ≢ k → P i z → Q i z) → (P k x → Q k y)
     → ((i : ℕ) → IfSome (slice_get xs i) (P i)) → (i : ℕ) → IfSome (slice_get (slice_set xs k y) i) (Q i)
 set_all P Q [] k x y there others own all i = tt
-set_all P Q (z ∷ xs) zero x y there others own all zero = own (subst (P 0) (some_same z x there) (all 0))
+set_all P Q (z ∷ xs) zero x y there others own all zero = own (subst (P 0) (same_Some z x there) (all 0))
 set_all P Q (z ∷ xs) zero x y there others own all (suc i) = IfSome_then (slice_get xs i) (all (suc i)) (λ it h. others (suc i) it (λ same. cc) h)
 set_all P Q (z ∷ xs) (suc k) x y there others own all zero = others 0 z (λ same. cc) (all 0)
 set_all P Q (z ∷ xs) (suc k) x y there others own all (suc i) =
@@ -113,9 +110,3 @@ at_index P [] i less all = absurd (not_below_zero i less)
     not_below_zero n less = omega (arith, less)
 at_index P (x ∷ xs) zero less all = all.0
 at_index P (x ∷ xs) (suc i) less all = at_index P xs i (omega (arith, less)) all.1
-
--- what holds of each item holds of one
-pub at_place : {X : Type 0} (P : X → Type 0) (xs : List X) (k : ℕ) (x : X) → slice_get xs k ≡ Some x → AllByRecursion P xs → P x
-at_place P [] k x there all = absurd (none-some x there)
-at_place P (z ∷ xs) zero x there all = subst P (some_same z x there) all.0
-at_place P (z ∷ xs) (suc k) x there all = at_place P xs k x there all.1

@@ -21,7 +21,7 @@ use Rattle.rl_windows.specs.contracts.range.RangeCode as range
 use Rattle.rl_windows.specs.declared.element.Element.{Element}
 use Rattle.rl_windows.specs.declared.range.RangeCode.{RangeCode}
 use Rattle.rl_slots.specs.declared.change.Change.{Change}
-use Rattle.rl_slots.specs.declared.place.Place.{Place}
+use Rattle.rl_slots.specs.declared.window_index.WindowIndex.{WindowIndex}
 use Rattle.rl_slots.specs.declared.range_window.RangeWindow.{RangeWindow}
 
 -- the number of a group's slot, the terms that it asked about last, the moment that was answered last, one that no window is past, and
@@ -129,39 +129,39 @@ term_count slots = sum_by (λ slot. length slot.terms) slots
 -- STREAMS
 
 -- where the windows are that select a stream: of a slot, whose first one has an index, and of all slots
-abbrev pub selecting_in : LabelSet → (slot first : ℕ) → List RangeWindow → List Place
+abbrev pub selecting_in : LabelSet → (slot first : ℕ) → List RangeWindow → List WindowIndex
 selecting_in labels slot first [] = []
 selecting_in labels slot first (it ∷ windows) =
     (if selects it.code.selector labels then record { slot = slot; window = first } ∷ [] else []) ++ selecting_in labels slot (suc first) windows
 
-abbrev pub selecting_from : LabelSet → (first : ℕ) → List SlotView → List Place
+abbrev pub selecting_from : LabelSet → (first : ℕ) → List SlotView → List WindowIndex
 selecting_from labels first [] = []
 selecting_from labels first (slot ∷ slots) = selecting_in labels first 0 slot.windows ++ selecting_from labels (suc first) slots
 
--- the places are those of the windows that select a stream, no more than there are terms
-abbrev pub AreSelecting : List SlotView → LabelSet → List Place → Type 0
-AreSelecting slots labels places = (places ≡ selecting_from labels 0 slots) × (length places ≤ term_count slots)
+-- the indices are those of the windows that select a stream, no more than there are terms
+abbrev pub AreSelecting : List SlotView → LabelSet → List WindowIndex → Type 0
+AreSelecting slots labels indices = (indices ≡ selecting_from labels 0 slots) × (length indices ≤ term_count slots)
 
 -- so for each stream of a table
-abbrev pub IsTable : List SlotView → List (LabelSet × List Place) → Type 0
+abbrev pub IsTable : List SlotView → List (LabelSet × List WindowIndex) → Type 0
 IsTable slots rows = AllByRecursion (λ row. AreSelecting slots row.0 row.1) rows
 
--- what a line changes in the window that is at a place, if there is one
-abbrev pub changes_there : StreamLine → (timestamp : ℕ) → Place → Option RangeWindow → List Change
-changes_there line timestamp place None = []
-changes_there line timestamp place (Some it) = map (λ element. record { slot = place.slot; window = place.window; element = element }) (option_to_list (wanted line timestamp it))
+-- what a line changes in the window at an index, if there is one
+abbrev pub changes_there : StreamLine → (timestamp : ℕ) → WindowIndex → Option RangeWindow → List Change
+changes_there line timestamp index None = []
+changes_there line timestamp index (Some it) = map (λ element. record { slot = index.slot; window = index.window; element = element }) (option_to_list (wanted line timestamp it))
 
--- the window at an index of a slot, if there is one, and the window at a place
+-- the window of a slot at an index, if there is one, and the window that is at a window index
 abbrev pub window_in : Option SlotView → (index : ℕ) → Option RangeWindow
 window_in None index = None
 window_in (Some slot) index = slice_get slot.windows index
 
-abbrev pub window_at : List SlotView → Place → Option RangeWindow
-window_at slots place = window_in (slice_get slots place.slot) place.window
+abbrev pub window_at : List SlotView → WindowIndex → Option RangeWindow
+window_at slots index = window_in (slice_get slots index.slot) index.window
 
--- and what a line changes in the windows at places, one after the other
-abbrev pub changes_at : StreamLine → (timestamp : ℕ) → List SlotView → List Place → List Change
-changes_at line timestamp slots places = flat_map (λ place. changes_there line timestamp place (window_at slots place)) places
+-- and what a line changes in the windows at indices, one after the other
+abbrev pub changes_at : StreamLine → (timestamp : ℕ) → List SlotView → List WindowIndex → List Change
+changes_at line timestamp slots indices = flat_map (λ index. changes_there line timestamp index (window_at slots index)) indices
 
 -- STANDING
 

@@ -4,9 +4,9 @@ ghost use Rattle.rl_windows.specs.Ranges.{HasRuns};
 ghost use Rattle.rl_slots.specs.Slots.{changes_of, term_count};
 
 use crate::change::Change;
-use crate::place::Place;
 use crate::slot::Slot;
 use crate::table::list_by;
+use crate::window_index::WindowIndex;
 use indexmap::IndexMap;
 use rl_labels::{Labels, Ns};
 use rl_pipeline::{Meter, ParsedLine};
@@ -18,7 +18,7 @@ use std::marker::Model;
 #[derive(Drop)]
 pub struct AskedSlots<'a> {
     slots: &'a [Slot],
-    table: IndexMap<Labels, PlainList<Place>>,
+    table: IndexMap<Labels, PlainList<WindowIndex>>,
 }
 
 impl<'a> Model for AskedSlots<'a> {

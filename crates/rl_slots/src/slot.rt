@@ -14,8 +14,8 @@ ghost use Rattle.rl_slots.specs.declared.change.AddFault.TheVariants as adds;
 
 use crate::answer::{Answer, answer_of};
 use crate::change::{AddFault, Change};
-use crate::place::Place;
 use crate::range_window::RangeWindow;
+use crate::window_index::WindowIndex;
 use rl_aggregate::Partial;
 use rl_labels::{Labels, Ns};
 use rl_pipeline::{Meter, ParsedLine};
@@ -94,42 +94,42 @@ impl Slot {
         &self,
         slot: usize,
         labels: &Labels,
-        places: &mut Vec<Place>,
+        indices: &mut Vec<WindowIndex>,
     ) -> Result<(), AllocError>
-        ensures places { OnOk result (places.new.items ≡ places.old.items ++ selecting_in labels.now slot 0 self.now.windows) }
-        ensures few { OnOk result (length places.new.items ≤ length places.old.items + length self.now.terms) }
+        ensures indices { OnOk result (indices.new.items ≡ indices.old.items ++ selecting_in labels.now slot 0 self.now.windows) }
+        ensures few { OnOk result (length indices.new.items ≤ length indices.old.items + length self.now.terms) }
     {
         for (window, it) in self.windows.iter().enumerate() {
             if !it.code.selector.accepts(labels)? {
                 continue;
             }
-            places.push(Place { slot, window })?;
+            indices.push(WindowIndex { slot, window })?;
         }
         Ok(())
     }
 
-    // Lists what a line changes in the window at a place, if there is one.
+    // Lists what a line changes in the window at an index, if there is one.
     pub(crate) fn list(
         &self,
-        place: Place,
+        index: WindowIndex,
         meter: &mut Meter,
         line: &mut ParsedLine<'_>,
         timestamp: Ns,
         changes: &mut Vec<Change>,
     ) -> Result<(), AllocError>
-        ensures listed { OnOk result (changes.new.items ≡ changes.old.items ++ changes_there line.old timestamp place (slice_get self.now.windows place.window)) }
+        ensures listed { OnOk result (changes.new.items ≡ changes.old.items ++ changes_there line.old timestamp index (slice_get self.now.windows index.window)) }
         ensures runs { HasRuns 1 meter.old meter.new }
         ensures line { line.new ≡ line.old }
     {
-        let Some(it) = self.windows.get(place.window) else {
+        let Some(it) = self.windows.get(index.window) else {
             return Ok(());
         };
         let Some(element) = it.element_of(meter, line, timestamp)? else {
             return Ok(());
         };
         changes.push(Change {
-            slot: place.slot,
-            window: place.window,
+            slot: index.slot,
+            window: index.window,
             element,
         })?;
         Ok(())

@@ -11,9 +11,9 @@ ghost use Rattle.rl_slots.specs.declared.change.AddFault.TheVariants as adds;
 use crate::answer::Answer;
 use crate::asked::AskedSlots;
 use crate::change::{AddFault, Change};
-use crate::place::Place;
 use crate::slot::Slot;
 use crate::table::list_by;
+use crate::window_index::WindowIndex;
 use indexmap::IndexMap;
 use rl_labels::{Labels, Ns};
 use rl_pipeline::{Meter, ParsedLine};
@@ -27,7 +27,7 @@ use std::marker::Model;
 pub struct Slots {
     slots: Vec<Slot>,
     // Where the windows are that select a stream, for each stream that had a line since a slot was set.
-    table: IndexMap<Labels, PlainList<Place>>,
+    table: IndexMap<Labels, PlainList<WindowIndex>>,
 }
 
 impl Model for Slots {

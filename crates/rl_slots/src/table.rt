@@ -4,8 +4,8 @@ ghost use Rattle.rl_windows.specs.Ranges.{HasRuns};
 ghost use Rattle.rl_slots.specs.Slots.{changes_at, changes_of, selecting_from, term_count, AreSelecting, IsTable, SlotView};
 
 use crate::change::Change;
-use crate::place::Place;
 use crate::slot::Slot;
+use crate::window_index::WindowIndex;
 use indexmap::IndexMap;
 use rl_labels::{Labels, Ns};
 use rl_pipeline::{Meter, ParsedLine};
@@ -17,7 +17,7 @@ pub const MOST_STREAMS: usize = 65_536;
 
 // Lists what a line changes in all windows. Only those that select its stream are asked, which the table has or is given.
 pub(crate) fn list_by(
-    table: &mut IndexMap<Labels, PlainList<Place>>,
+    table: &mut IndexMap<Labels, PlainList<WindowIndex>>,
     slots: &[Slot],
     meter: &mut Meter,
     line: &mut ParsedLine<'_>,
@@ -33,62 +33,66 @@ pub(crate) fn list_by(
     if slots.is_empty() {
         return Ok(());
     }
-    if let Some(places) = table.get(line.labels()) {
-        return list_at(slots, places.as_slice(), meter, line, timestamp, changes);
+    if let Some(indices) = table.get(line.labels()) {
+        return list_at(slots, indices.as_slice(), meter, line, timestamp, changes);
     }
-    let places = selecting(*table.allocator(), slots, line.labels())?;
-    list_at(slots, places.as_slice(), meter, line, timestamp, changes)?;
-    keep(table, line.labels(), places)
+    let indices = selecting(*table.allocator(), slots, line.labels())?;
+    list_at(slots, indices.as_slice(), meter, line, timestamp, changes)?;
+    keep(table, line.labels(), indices)
 }
 
-// Lists what a line changes in the windows at places.
+// Lists what a line changes in the windows at indices.
 fn list_at(
     slots: &[Slot],
-    places: &[Place],
+    indices: &[WindowIndex],
     meter: &mut Meter,
     line: &mut ParsedLine<'_>,
     timestamp: Ns,
     changes: &mut Vec<Change>,
 ) -> Result<(), AllocError>
-    ensures listed { OnOk result (changes.new.items ≡ changes.old.items ++ changes_at line.old timestamp slots.now places.now) }
-    ensures runs { HasRuns (length places.now) meter.old meter.new }
+    ensures listed { OnOk result (changes.new.items ≡ changes.old.items ++ changes_at line.old timestamp slots.now indices.now) }
+    ensures runs { HasRuns (length indices.now) meter.old meter.new }
     ensures line { line.new ≡ line.old }
 {
-    for place in places {
-        let Some(slot) = slots.get(place.slot) else {
+    for index in indices {
+        let Some(slot) = slots.get(index.slot) else {
             continue;
         };
-        slot.list(*place, meter, line, timestamp, changes)?;
+        slot.list(*index, meter, line, timestamp, changes)?;
     }
     Ok(())
 }
 
 // Where the windows are that select a stream, slot by slot.
-fn selecting(alloc: Global, slots: &[Slot], labels: &Labels) -> Result<PlainList<Place>, AllocError>
+fn selecting(
+    alloc: Global,
+    slots: &[Slot],
+    labels: &Labels,
+) -> Result<PlainList<WindowIndex>, AllocError>
     ensures { IfOk result (AreSelecting slots.now labels.now) }
 {
-    let mut places = Vec::new(alloc);
+    let mut indices = Vec::new(alloc);
     for (index, slot) in slots.iter().enumerate() {
-        slot.select(index, labels, &mut places)?;
+        slot.select(index, labels, &mut indices)?;
     }
-    Ok(PlainList::from_vec(places))
+    Ok(PlainList::from_vec(indices))
 }
 
 // Keeps where the windows are that select a stream.
 fn keep(
-    table: &mut IndexMap<Labels, PlainList<Place>>,
+    table: &mut IndexMap<Labels, PlainList<WindowIndex>>,
     labels: &Labels,
-    places: PlainList<Place>,
+    indices: PlainList<WindowIndex>,
 ) -> Result<(), AllocError>
-    ensures { (slots : List SlotView) → IsTable slots table.old.entries → AreSelecting slots labels.now places → IsTable slots table.new.entries }
+    ensures { (slots : List SlotView) → IsTable slots table.old.entries → AreSelecting slots labels.now indices → IsTable slots table.new.entries }
 {
     make_room(table);
-    table.insert(labels.try_copy()?, places)?;
+    table.insert(labels.try_copy()?, indices)?;
     Ok(())
 }
 
 // Empties a table that has as many streams as it may have.
-fn make_room(table: &mut IndexMap<Labels, PlainList<Place>>)
+fn make_room(table: &mut IndexMap<Labels, PlainList<WindowIndex>>)
     ensures { (slots : List SlotView) → IsTable slots table.old.entries → IsTable slots table.new.entries }
 {
     if table.len() >= MOST_STREAMS {

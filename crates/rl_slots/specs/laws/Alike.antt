@@ -96,10 +96,10 @@ exact-alike slots entries others same exact s = IfSome_then (slice_get slots s) 
 -- ONE OF SEVERAL
 
 -- what holds of each item of a list holds of the one at an index
-pub at_place : {X : Type 0} (P : X → Type 0) (items : List X) (index : ℕ) (item : X) → slice_get items index ≡ Some item → AllByRecursion P items → P item
-at_place P [] index item there all = absurd (none-some item there)
-at_place P (first ∷ items) zero item there all = subst P (same_Some first item there) all.0
-at_place P (first ∷ items) (suc index) item there all = at_place P items index item there all.1
+pub at_index : {X : Type 0} (P : X → Type 0) (items : List X) (index : ℕ) (item : X) → slice_get items index ≡ Some item → AllByRecursion P items → P item
+at_index P [] index item there all = absurd (none-some item there)
+at_index P (first ∷ items) zero item there all = subst P (same_Some first item there) all.0
+at_index P (first ∷ items) (suc index) item there all = at_index P items index item there all.1
 
 -- SLOTS
 
@@ -125,7 +125,7 @@ module _ {X : Type 0} (P : X → Type 0) where
 
 -- slots stand for what entries add to them also with one that does
 pub exact-set : (slot : SlotView) (slots : List SlotView) (entries : List Entry) → AreExactIn slot.windows entries → AreExact slots entries → AreExact (with_slot slot slots) entries
-exact-set slot slots entries own exact = elim (position (λ own. own.number == slot.number) slots) as (λ place. AreExact (put_at place slot slots) entries) [
+exact-set slot slots entries own exact = elim (position (λ own. own.number == slot.number) slots) as (λ index. AreExact (put_at index slot slots) entries) [
   | None ↦ one_beside (λ slot. AreExactIn slot.windows entries) slots slot own exact
   | Some index ↦ one_set (λ slot. AreExactIn slot.windows entries) slots index slot own exact
 ]

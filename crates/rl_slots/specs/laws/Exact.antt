@@ -5,7 +5,7 @@ use Rattle.std.specs.List.{AllByRecursion, filter}
 use Rattle.std.proofs.Common.{sym, ap, subst, ◌∙◌, append_assoc, arith}
 use Rattle.std.proofs.lemmas.Bool.{eq-eqb, le-ltb, ne_eqb}
 use Rattle.std.proofs.lemmas.Grind.{flat_map-append}
-use Rattle.std.proofs.lemmas.Option.{none-some, slice_get-map}
+use Rattle.std.proofs.lemmas.Option.{none-some, same_Some, slice_get-map}
 use Rattle.rl_labels.specs.EntryParts.{longest_line}
 use Rattle.rl_labels.specs.LabelSet.{LabelSet}
 use Rattle.rl_labels.specs.Selects.{selects}
@@ -19,14 +19,11 @@ use Rattle.rl_windows.specs.Buckets.{AreAlike}
 use Rattle.rl_windows.specs.declared.element.Element.{Element}
 use Rattle.rl_windows.specs.declared.range.RangeCode.{RangeCode}
 use Rattle.rl_slots.specs.Slots.{changes_from, changes_in, changes_of, changes_of_all, line_of, outline, range_of, wanted, with_change, with_changes, with_element_at, AllStand, AreExact, AreNeededFrom, Contents, IsNeededFrom, IsOfLine, SlotView}
-use Rattle.rl_slots.specs.laws.Alike.{at_place, stands-alike, total-between}
+use Rattle.rl_slots.specs.laws.Alike.{at_index, stands-alike, total-between}
 use Rattle.rl_slots.specs.declared.change.Change.{Change}
 use Rattle.rl_slots.specs.declared.range_window.RangeWindow.{RangeWindow}
 
 -- ELEMENTS
-
-some_same : {X : Type 0} {a b : X} → Some a ≡ Some b → a ≡ b
-some_same h = cc
 
 -- an element more, if there is one
 abbrev pub put : Option Element → List Element → List Element
@@ -99,7 +96,7 @@ module _ (line : StreamLine) (timestamp : ℕ) where
       ap (λ (c : Contents). c slot first code) (with_changes-append (own slot first own_it) (changes_in line timestamp slot (suc first) windows) contents)
       ∙ in-before slot (suc first) windows (with_changes (own slot first own_it) contents) first code (omega arith)
       ∙ own-here slot first own_it contents code
-      ∙ ap (λ o. put (wanted line timestamp o) (contents slot first code)) (some_same there))
+      ∙ ap (λ o. put (wanted line timestamp o) (contents slot first code)) (same_Some _ _ there))
   in-here slot first (suc k) (own_it ∷ windows) contents it code there =
       let later : suc first + k ≡ first + suc k = omega arith in
       subst (λ w. with_changes (changes_in line timestamp slot first (own_it ∷ windows)) contents slot w code ≡ put (wanted line timestamp it) (contents slot w code)) later (
@@ -122,7 +119,7 @@ module _ (line : StreamLine) (timestamp : ℕ) where
       subst (λ s. with_changes (changes_from line timestamp first (own_slot ∷ slots)) contents s w code ≡ put (wanted line timestamp it) (contents s w code)) (sym zero_more) (
       ap (λ (c : Contents). c first w code) (with_changes-append (changes_in line timestamp first 0 own_slot.windows) (changes_from line timestamp (suc first) slots) contents)
       ∙ from-before (suc first) slots (with_changes (changes_in line timestamp first 0 own_slot.windows) contents) first w code (omega arith)
-      ∙ subst (λ n. with_changes (changes_in line timestamp first 0 own_slot.windows) contents first n code ≡ put (wanted line timestamp it) (contents first n code)) (the_same w) (in-here first 0 w own_slot.windows contents it code (ap (λ (s : SlotView). slice_get s.windows w) (some_same there) ∙ window)))
+      ∙ subst (λ n. with_changes (changes_in line timestamp first 0 own_slot.windows) contents first n code ≡ put (wanted line timestamp it) (contents first n code)) (the_same w) (in-here first 0 w own_slot.windows contents it code (ap (λ (s : SlotView). slice_get s.windows w) (same_Some _ _ there) ∙ window)))
   from-here first (suc k) w (own_slot ∷ slots) contents slot it code there window =
       let later : suc first + k ≡ first + suc k = omega arith in
       subst (λ s. with_changes (changes_from line timestamp first (own_slot ∷ slots)) contents s w code ≡ put (wanted line timestamp it) (contents s w code)) later (
@@ -300,7 +297,7 @@ exact-changed lost entries slots others same = each_window others
 
 -- where no window needs a line before a timestamp, the one at some indices does not
 needed_at : (first : ℕ) (slots : List SlotView) (s w : ℕ) (slot : SlotView) (it : RangeWindow) → AreNeededFrom first slots → slice_get slots s ≡ Some slot → slice_get slot.windows w ≡ Some it → IsNeededFrom first it
-needed_at first slots s w slot it needed there window = at_place (IsNeededFrom first) slot.windows w it window (at_place (λ (slot : SlotView). AllByRecursion (IsNeededFrom first) slot.windows) slots s slot there needed)
+needed_at first slots s w slot it needed there window = at_index (IsNeededFrom first) slot.windows w it window (at_index (λ (slot : SlotView). AllByRecursion (IsNeededFrom first) slot.windows) slots s slot there needed)
 
 -- windows that need no line before a timestamp stand for entries before it too
 pub exact-unneeded : (first : ℕ) (slots : List SlotView) (others entries : List Entry) → AreNeededFrom first slots → AllByRecursion (λ entry. entry.timestamp < first) others → AreExact slots entries → AreExact slots (others ++ entries)

@@ -94,25 +94,25 @@ abbrev numbers : List SlotView → List ℕ
 numbers slots = map (λ (slot : SlotView). slot.number) slots
 
 -- where the slot of a number is
-abbrev place : ℕ → List SlotView → Option ℕ
-place number slots = position (λ (slot : SlotView). slot.number == number) slots
+abbrev index_of : ℕ → List SlotView → Option ℕ
+index_of number slots = position (λ (slot : SlotView). slot.number == number) slots
 
 -- the numbers of slots alone say it
 first_by : (number : ℕ) (slots : List SlotView) → position_or_len (λ (slot : SlotView). slot.number == number) slots ≡ position_or_len (λ n. n == number) (numbers slots)
 first_by number [] = refl
 first_by number (slot ∷ slots) = ap (λ n. cond (not (slot.number == number)) (1 + n) 0) (first_by number slots)
 
-place_by : (number : ℕ) (slots : List SlotView) → place number slots ≡ position (λ n. n == number) (numbers slots)
-place_by number slots =
+index_by : (number : ℕ) (slots : List SlotView) → index_of number slots ≡ position (λ n. n == number) (numbers slots)
+index_by number slots =
     let long : length slots ≡ length (numbers slots) = sym (length-map slots (λ (slot : SlotView). slot.number)) in
     λ i. cond (nat_lt (first_by number slots i) (long i)) (Some (first_by number slots i)) None
 
-same_place : (number : ℕ) (slots others : List SlotView) → numbers others ≡ numbers slots → place number others ≡ place number slots
-same_place number slots others same = place_by number others ∙ ap (position (λ n. n == number)) same ∙ sym (place_by number slots)
+same_index : (number : ℕ) (slots others : List SlotView) → numbers others ≡ numbers slots → index_of number others ≡ index_of number slots
+same_index number slots others same = index_by number others ∙ ap (position (λ n. n == number)) same ∙ sym (index_by number slots)
 
 -- the slot that is there
-placed : (number index : ℕ) (slots : List SlotView) (any : SlotView) → place number slots ≡ Some index → (slot : SlotView) × (slice_get slots index ≡ Some slot) × (slot.number ≡ number)
-placed number index slots any is =
+indexed : (number index : ℕ) (slots : List SlotView) (any : SlotView) → index_of number slots ≡ Some index → (slot : SlotView) × (slice_get slots index ≡ Some slot) × (slot.number ≡ number)
+indexed number index slots any is =
     let at = position-Some (λ (slot : SlotView). slot.number == number) slots index any is in
     (_, slice_get-get_or slots index any at.0, eqb-true _ number at.1)
 
@@ -130,7 +130,7 @@ live-outline slots others same number terms t live =
     let own = seen outline (slice_get others live.index) (outline live.slot) there in
     record {
       index = live.index;
-      at = same_place number slots others (outline_numbers others ∙ ap numbers same ∙ sym (outline_numbers slots)) ∙ live.at;
+      at = same_index number slots others (outline_numbers others ∙ ap numbers same ∙ sym (outline_numbers slots)) ∙ live.at;
       slot = own.0;
       there = own.1;
       live = (ap (λ (o : SlotView). o.terms) own.2 ∙ live.live.0, subst (λ r. r ≤ t) (sym (ap (λ (o : SlotView). o.reached) own.2)) live.live.1);
@@ -146,7 +146,7 @@ live-moved index t slots others moved number terms u past live = subst (IsLiveIn
     with_one : (o : Option SlotView) → slice_get slots index ≡ o → IfSome o (λ own. (new.number ≡ own.number) × (new.terms ≡ own.terms) × (new.reached ≡ t)) → IsLiveIn number terms u (slice_set slots index new)
     with_one None none is = subst (IsLiveIn number terms u) (sym (set_nowhere slots index new none)) live
     with_one (Some own) there is =
-        let at = same_place number slots (slice_set slots index new) (set_seen (λ (slot : SlotView). slot.number) slots index own new there is.0) ∙ live.at in
+        let at = same_index number slots (slice_set slots index new) (set_seen (λ (slot : SlotView). slot.number) slots index own new there is.0) ∙ live.at in
         elim (live.index == index) as (λ b. (live.index == index) ≡ b → IsLiveIn number terms u (slice_set slots index new)) [
           | true ↦ λ e.
               let here : live.index ≡ index = eqb-true live.index index e in
@@ -170,9 +170,9 @@ live-moved index t slots others moved number terms u past live = subst (IsLiveIn
 
 -- a slot of another number that is put in leaves one live
 pub live-set : (slot : SlotView) (slots : List SlotView) (number : ℕ) (terms : List Term) (u : ℕ) → (number ≡ slot.number → ⊥) → IsLiveIn number terms u slots → IsLiveIn number terms u (with_slot slot slots)
-live-set slot slots number terms u apart live = with_one (place slot.number slots) refl
+live-set slot slots number terms u apart live = with_one (index_of slot.number slots) refl
   where
-    with_one : (o : Option ℕ) → place slot.number slots ≡ o → IsLiveIn number terms u (put_at o slot slots)
+    with_one : (o : Option ℕ) → index_of slot.number slots ≡ o → IsLiveIn number terms u (put_at o slot slots)
     with_one None none = record {
       index = live.index;
       at = position_more (λ (own : SlotView). own.number == number) slot live.index slots live.at;
@@ -181,13 +181,13 @@ live-set slot slots number terms u apart live = with_one (place slot.number slot
       live = live.live;
     }
     with_one (Some index) is =
-        let own = placed slot.number index slots slot is in
-        let one = placed number live.index slots slot live.at in
+        let own = indexed slot.number index slots slot is in
+        let one = indexed number live.index slots slot live.at in
         let other : live.index ≢ index = λ same.
         apart (sym one.2 ∙ ap (λ (s : SlotView). s.number) (same_Some one.0 own.0 (sym one.1 ∙ ap (slice_get slots) same ∙ own.1)) ∙ own.2) in
         record {
           index = live.index;
-          at = same_place number slots (slice_set slots index slot) (set_seen (λ (s : SlotView). s.number) slots index own.0 slot own.1 (sym own.2)) ∙ live.at;
+          at = same_index number slots (slice_set slots index slot) (set_seen (λ (s : SlotView). s.number) slots index own.0 slot own.1 (sym own.2)) ∙ live.at;
           slot = live.slot;
           there = set_other slots index live.index slot other ∙ live.there;
           live = live.live;
@@ -195,9 +195,9 @@ live-set slot slots number terms u apart live = with_one (place slot.number slot
 
 -- and it is live itself
 pub live-new : (slot : SlotView) (slots : List SlotView) (u : ℕ) → slot.reached ≤ u → IsLiveIn slot.number slot.terms u (with_slot slot slots)
-live-new slot slots u reached = with_one (place slot.number slots) refl
+live-new slot slots u reached = with_one (index_of slot.number slots) refl
   where
-    with_one : (o : Option ℕ) → place slot.number slots ≡ o → IsLiveIn slot.number slot.terms u (put_at o slot slots)
+    with_one : (o : Option ℕ) → index_of slot.number slots ≡ o → IsLiveIn slot.number slot.terms u (put_at o slot slots)
     with_one None none = record {
       index = length slots;
       at = position_last (λ (own : SlotView). own.number == slot.number) slot slots (eq-eqb slot.number slot.number refl) none;
@@ -206,10 +206,10 @@ live-new slot slots u reached = with_one (place slot.number slots) refl
       live = (refl, reached);
     }
     with_one (Some index) is =
-        let own = placed slot.number index slots slot is in
+        let own = indexed slot.number index slots slot is in
         record {
           index = index;
-          at = same_place slot.number slots (slice_set slots index slot) (set_seen (λ (s : SlotView). s.number) slots index own.0 slot own.1 (sym own.2)) ∙ is;
+          at = same_index slot.number slots (slice_set slots index slot) (set_seen (λ (s : SlotView). s.number) slots index own.0 slot own.1 (sym own.2)) ∙ is;
           slot = slot;
           there = set_there slots index own.0 slot own.1;
           live = (refl, reached);
@@ -243,12 +243,12 @@ most-outline slots others same most all = slots_hidden most others (subst (AreOf
 
 -- and so with a slot that is put in
 pub most-set : (slot : SlotView) (slots : List SlotView) (most : ℕ) → AllByRecursion (λ it. it.window.most ≡ most) slot.windows → AreOfMost most slots → AreOfMost most (with_slot slot slots)
-most-set slot slots most own all = with_one (place slot.number slots) refl
+most-set slot slots most own all = with_one (index_of slot.number slots) refl
   where
-    with_one : (o : Option ℕ) → place slot.number slots ≡ o → AreOfMost most (put_at o slot slots)
+    with_one : (o : Option ℕ) → index_of slot.number slots ≡ o → AreOfMost most (put_at o slot slots)
     with_one None none = all_one_more (λ (it : SlotView). AllByRecursion (IsOfMost most) it.windows) slots slot all own
     with_one (Some index) is =
-        let old = placed slot.number index slots slot is in
+        let old = indexed slot.number index slots slot is in
         set_keeps (λ (it : SlotView). AllByRecursion (IsOfMost most) it.windows) slots index old.0 slot old.1 (λ before. own) all
 
 -- ANSWERED LAST
@@ -330,9 +330,9 @@ last_set number own first (old ∷ slots) slot is none =
 
 -- a slot that is put in says it for its number
 pub collected-set : (slot : SlotView) (slots : List SlotView) (number : ℕ) → collected_in number (with_slot slot slots) ≡ (if slot.number == number then Some slot.collected else collected_in number slots)
-collected-set slot slots number = with_one (place slot.number slots) refl
+collected-set slot slots number = with_one (index_of slot.number slots) refl
   where
-    with_one : (o : Option ℕ) → place slot.number slots ≡ o → collected_in number (put_at o slot slots) ≡ cond (slot.number == number) (Some slot.collected) (collected_in number slots)
+    with_one : (o : Option ℕ) → index_of slot.number slots ≡ o → collected_in number (put_at o slot slots) ≡ cond (slot.number == number) (Some slot.collected) (collected_in number slots)
     with_one None none = last_set number slot.number 0 slots slot refl (sym (position_from-zero (λ (own : SlotView). own.number == slot.number) slots) ∙ none)
     with_one (Some index) is = first_set number slot.number index slots slot slot refl (position-Some (λ (own : SlotView). own.number == slot.number) slots index slot is)
 
@@ -374,5 +374,5 @@ collected-own number index slots slot is at =
 -- the first slot of a number has it
 pub first_number : (number index : ℕ) (slots : List SlotView) (own : SlotView) → position (λ slot. slot.number == number) slots ≡ Some index → slice_get slots index ≡ Some own → own.number ≡ number
 first_number number index slots own at there =
-    let first = placed number index slots own at in
+    let first = indexed number index slots own at in
     ap (λ (slot : SlotView). slot.number) (same_Some own first.0 (sym there ∙ first.1)) ∙ first.2

@@ -6,9 +6,10 @@ use Rattle.rl_aggregate.specs.Limited.{IsWithin}
 use Rattle.rl_aggregate.specs.Partials.{partial}
 use Rattle.rl_windows.specs.Windows.{in_range}
 use Rattle.rl_slots.specs.Slots.{key_of, AreExactIn, IsPartialAt, IsSumAt, StandIn}
+use Rattle.rl_slots.specs.laws.Alike.{at_index}
 use Rattle.rl_slots.specs.declared.range_window.RangeWindow.{RangeWindow}
 use Rattle.rl_slots.proofs.Asking.{found, shows_at, sums_at}
-use Rattle.rl_slots.proofs.Setting.{all_one_more, at_place, one_pair}
+use Rattle.rl_slots.proofs.Setting.{all_one_more, one_pair}
 use Rattle.rl_slots.proofs.slot.partials_at.Goals as goal
 
 pub loop-index-preserved : goal.loop-index-preserved
@@ -22,7 +23,7 @@ loop-index-preserved c =
     let x = slice_index_or windows k d in
     let less : loop.index-index < length indices = omega (arith, c.loop-index-test.true, loop.auto.index-index-end) in
     let there = found old windows indices loop.index-index d less c.requires.there (ap (map key_of) loop.invariant.same) in
-    let moment : x.window.moment ≡ c.args.t = at_place (λ (it : RangeWindow). it.window.moment ≡ c.args.t) windows k x there (subst (AllByRecursion (λ it. it.window.moment ≡ c.args.t)) (sym loop.invariant.same) c.requires.moments) in
+    let moment : x.window.moment ≡ c.args.t = at_index (λ (it : RangeWindow). it.window.moment ≡ c.args.t) windows k x there (subst (AllByRecursion (λ it. it.window.moment ≡ c.args.t)) (sym loop.invariant.same) c.requires.moments) in
     record {
       each = ap length c.in_ok-push.ensures.items ∙ length-append loop.partials.items (c.in_ok-partial.partial ∷ []) ∙ ap (λ n. n + 1) loop.invariant.each;
       partials = λ entries exact.
@@ -40,7 +41,7 @@ loop-index-preserved c =
           (sums_at old windows contents c.args.t k x c.in_ok-partial.partial there (ap (map key_of) loop.invariant.same) (subst (λ ws. StandIn ws contents) (sym loop.invariant.same) stand)
           (λ es stands. c.in_ok-partial.ensures.sum es stands ∙ ap (λ m. in_range x.window.seconds m es) moment))));
       within = λ most all.
-          let most_is : x.window.most ≡ most = at_place (λ (it : RangeWindow). it.window.most ≡ most) windows k x there (subst (AllByRecursion (λ it. it.window.most ≡ most)) (sym loop.invariant.same) all) in
+          let most_is : x.window.most ≡ most = at_index (λ (it : RangeWindow). it.window.most ≡ most) windows k x there (subst (AllByRecursion (λ it. it.window.most ≡ most)) (sym loop.invariant.same) all) in
           subst (AllByRecursion (IsWithin most)) (sym c.in_ok-push.ensures.items)
           (all_one_more (IsWithin most) loop.partials.items c.in_ok-partial.partial (loop.invariant.within most all) (subst (λ m. IsWithin m c.in_ok-partial.partial) most_is c.in_ok-partial.ensures.within));
       same = ap (slice_set windows k) c.partial.ensures.same ∙ set-get_or windows k d ∙ loop.invariant.same;

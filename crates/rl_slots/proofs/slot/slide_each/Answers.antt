@@ -9,8 +9,9 @@ use Rattle.rl_windows.specs.Ranges.{elements_for}
 use Rattle.rl_windows.specs.Windows.{visits}
 use Rattle.rl_windows.specs.declared.range.RangeCode.{RangeCode}
 use Rattle.rl_slots.specs.Slots.{key_of, visits_by, visits_of}
+use Rattle.rl_slots.specs.laws.Alike.{at_index}
 use Rattle.rl_slots.specs.declared.range_window.RangeWindow.{RangeWindow}
-use Rattle.rl_slots.proofs.Setting.{all_one_more, at_place, kept_at, set_keeps, set_seen}
+use Rattle.rl_slots.proofs.Setting.{all_one_more, kept_at, set_keeps, set_seen}
 use Rattle.rl_slots.proofs.Visiting.{stands_at, visits-more}
 use Rattle.rl_slots.proofs.slot.slide_each.Goals as goal
 
@@ -87,7 +88,7 @@ returns-in_err-slide-clause-few c = λ entries since exact all.
       omega (
         arith,
         visits-more (visits_by entries since c.args.t) c.args.windows.now windows k x there c.loop-index.invariant.ranges (visits x.window c.args.t) c.args.meter.now.visits c.loop-index.meter.visits c.slide.new.meter.visits
-            (c.slide.ensures.few entries since (at_place (λ it. since ≤ it.window.moment) windows k x there (c.loop-index.invariant.since since all)) (stands_at windows entries k x there (c.loop-index.invariant.stand (λ _ code. elements_for code entries) exact)))
+            (c.slide.ensures.few entries since (at_index (λ it. since ≤ it.window.moment) windows k x there (c.loop-index.invariant.since since all)) (stands_at windows entries k x there (c.loop-index.invariant.stand (λ _ code. elements_for code entries) exact)))
             c.slide.ensures.visits.1 (c.loop-index.invariant.few entries since exact all),
       ),
     )
@@ -112,6 +113,6 @@ loop-index-preserved c =
       runs = c.slide.ensures.visits.0 ∙ c.loop-index.invariant.runs;
       visits = omega (arith, c.slide.ensures.visits.1, c.loop-index.invariant.visits, left, rest);
       few = λ entries since exact all. visits-more (visits_by entries since c.args.t) c.args.windows.now windows k x there c.loop-index.invariant.ranges (visits x.window c.args.t) c.args.meter.now.visits c.loop-index.meter.visits c.slide.new.meter.visits
-          (c.slide.ensures.few entries since (at_place (λ it. since ≤ it.window.moment) windows k x there (c.loop-index.invariant.since since all)) (stands_at windows entries k x there (c.loop-index.invariant.stand (λ _ code. elements_for code entries) exact)))
+          (c.slide.ensures.few entries since (at_index (λ it. since ≤ it.window.moment) windows k x there (c.loop-index.invariant.since since all)) (stands_at windows entries k x there (c.loop-index.invariant.stand (λ _ code. elements_for code entries) exact)))
           c.slide.ensures.visits.1 (c.loop-index.invariant.few entries since exact all);
     }

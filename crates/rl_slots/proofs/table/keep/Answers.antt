@@ -14,4 +14,4 @@ pub returns : goal.returns
 returns c = λ slots table are.
     let labels = c.in_ok-try_copy.field-0 in
     subst (IsTable slots) (sym c.in_ok-insert.ensures.entries)
-    (kept slots labels c.make_room.new.table.entries c.args.places (c.make_room.ensures slots table) (subst (λ l. AreSelecting slots l c.args.places) (sym c.in_ok-try_copy.ensures) are))
+    (kept slots labels c.make_room.new.table.entries c.args.indices (c.make_room.ensures slots table) (subst (λ l. AreSelecting slots l c.args.indices) (sym c.in_ok-try_copy.ensures) are))

@@ -11,8 +11,8 @@ loop-index-preserved c =
     let loop = c.loop-index in
     let less : loop.index < length slots = omega (arith, loop.auto.index-end, c.loop-index-test.true) in
     record {
-      places = c.in_ok-select.ensures.places
-          ∙ ap (λ places. places ++ selecting_in labels loop.index 0 c.index-slots-index.result.windows) loop.invariant.places
+      indices = c.in_ok-select.ensures.indices
+          ∙ ap (λ indices. indices ++ selecting_in labels loop.index 0 c.index-slots-index.result.windows) loop.invariant.indices
           ∙ sym (one_slot labels loop.index slots c.index-slots-index.result less c.index-slots-index.is);
       few = omega (arith, c.in_ok-select.ensures.few, loop.invariant.few, count_more loop.index slots c.index-slots-index.result less c.index-slots-index.is);
     }

@@ -5,6 +5,6 @@ use Rattle.rl_slots.proofs.table.selecting.Given as goal
 
 abbrev pub invariant-loop-index : goal.invariant-loop-index
 invariant-loop-index l = record {
-  places : l.places.items ≡ selecting_from l.labels 0 (take l.index l.slots);
-  few : length l.places.items ≤ term_count (take l.index l.slots);
+  indices : l.indices.items ≡ selecting_from l.labels 0 (take l.index l.slots);
+  few : length l.indices.items ≤ term_count (take l.index l.slots);
 }

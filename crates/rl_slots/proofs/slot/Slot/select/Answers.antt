@@ -2,7 +2,7 @@
 use Rattle.std.proofs.Common.{◌≡◌, ◌<◌, ◌++◌, ◌∷◌, [], slice_index_or, take, length, append-nil, append_assoc, sym, ap, ◌∙◌, arith}
 use Rattle.std.proofs.lemmas.List.{length-append, take_all}
 use Rattle.rl_slots.specs.Slots.{selecting_in, SlotView}
-use Rattle.rl_slots.proofs.Listing.{one_window, places_few}
+use Rattle.rl_slots.proofs.Listing.{one_window, indices_few}
 use Rattle.rl_slots.proofs.Picking.{windows_few}
 use Rattle.rl_slots.proofs.slot.Slot.select.Goals as goal
 
@@ -15,8 +15,8 @@ loop-window-preserved-then-not-branch c =
     let less : loop.window < length windows = omega (arith, loop.auto.window-end, c.loop-window-test.true, ap length same) in
     let there : c.it-item.result ≡ slice_index_or windows loop.window c.it-item.result = c.it-item.is ∙ ap (λ ws. slice_index_or ws loop.window c.it-item.result) same in
     record {
-      places = loop.invariant.places
-          ∙ ap (λ rest. c.args.places.now.items ++ rest) (sym (one_window labels c.args.slot loop.window windows c.it-item.result _ less there (sym c.if-not-branch.true ∙ c.in_ok-accepts.ensures.accepts) ∙ append-nil _));
+      indices = loop.invariant.indices
+          ∙ ap (λ rest. c.args.indices.now.items ++ rest) (sym (one_window labels c.args.slot loop.window windows c.it-item.result _ less there (sym c.if-not-branch.true ∙ c.in_ok-accepts.ensures.accepts) ∙ append-nil _));
     }
 
 pub loop-window-preserved : goal.loop-window-preserved
@@ -28,10 +28,10 @@ loop-window-preserved c =
     let less : loop.window < length windows = omega (arith, loop.auto.window-end, c.loop-window-test.true, ap length same) in
     let there : c.it-item.result ≡ slice_index_or windows loop.window c.it-item.result = c.it-item.is ∙ ap (λ ws. slice_index_or ws loop.window c.it-item.result) same in
     record {
-      places = c.in_ok-push.ensures.items
-          ∙ ap (λ items. items ++ record { slot = c.args.slot; window = loop.window } ∷ []) loop.invariant.places
-          ∙ append_assoc c.args.places.now.items (selecting_in labels c.args.slot 0 (take loop.window windows)) _
-          ∙ ap (λ rest. c.args.places.now.items ++ rest) (sym (one_window labels c.args.slot loop.window windows c.it-item.result _ less there (sym c.if-not-branch.false ∙ c.in_ok-accepts.ensures.accepts)));
+      indices = c.in_ok-push.ensures.items
+          ∙ ap (λ items. items ++ record { slot = c.args.slot; window = loop.window } ∷ []) loop.invariant.indices
+          ∙ append_assoc c.args.indices.now.items (selecting_in labels c.args.slot 0 (take loop.window windows)) _
+          ∙ ap (λ rest. c.args.indices.now.items ++ rest) (sym (one_window labels c.args.slot loop.window windows c.it-item.result _ less there (sym c.if-not-branch.false ∙ c.in_ok-accepts.ensures.accepts)));
     }
 
 pub returns-clause-few : goal.returns-clause-few
@@ -44,9 +44,9 @@ returns-clause-few c =
     let few = windows_few c.self.inside.windows.items c.self.inside.terms c.self.invariant.picked in
     omega (
       arith,
-      ap length (loop.invariant.places ∙ ap (λ ws. c.args.places.now.items ++ selecting_in labels c.args.slot 0 ws) all),
-      length-append c.args.places.now.items (selecting_in labels c.args.slot 0 windows),
-      places_few labels c.args.slot 0 windows,
+      ap length (loop.invariant.indices ∙ ap (λ ws. c.args.indices.now.items ++ selecting_in labels c.args.slot 0 ws) all),
+      length-append c.args.indices.now.items (selecting_in labels c.args.slot 0 windows),
+      indices_few labels c.args.slot 0 windows,
       few,
       ap (λ (v : SlotView). length v.terms) c.self.view_is,
       ap (λ (v : SlotView). length v.windows) c.self.view_is,

@@ -5,5 +5,5 @@ use Rattle.rl_slots.proofs.slot.Slot.select.Given as goal
 
 abbrev pub invariant-loop-window : goal.invariant-loop-window
 invariant-loop-window l = record {
-  places : l.places.items ≡ l.fn.places.items ++ selecting_in l.labels l.slot 0 (take l.window l.self.windows);
+  indices : l.indices.items ≡ l.fn.indices.items ++ selecting_in l.labels l.slot 0 (take l.window l.self.windows);
 }

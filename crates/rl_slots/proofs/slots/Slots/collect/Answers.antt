@@ -9,8 +9,9 @@ use Rattle.rl_labels.specs.declared.entry.Entry.{Entry}
 use Rattle.rl_query.specs.declared.query.Term.{Term}
 use Rattle.rl_aggregate.specs.Partials.{partial}
 use Rattle.rl_slots.specs.Slots.{collected_in, visits_for, AllStand, AreExact, AreExactIn, AreOfMost, HasVisits, SlotView}
+use Rattle.rl_slots.specs.laws.Alike.{at_index}
 use Rattle.rl_slots.specs.laws.Living.{answered, collected-others, collected-own, collected-same, first_number}
-use Rattle.rl_slots.proofs.Setting.{at_place, set_keeps, set_seen, slot_moved}
+use Rattle.rl_slots.proofs.Setting.{set_keeps, set_seen, slot_moved}
 use Rattle.rl_slots.proofs.Tables.{table_kept}
 use Rattle.rl_slots.proofs.slots.Slots.collect.Goals as goal
 
@@ -52,7 +53,7 @@ returns-clause-within c =
     let slots = c.self.inside.slots.items in
     let x = c.index_mut.result.now in
     let there = slice_get_read slots (length slots) c.args.index x refl (omega (arith, c.requires.there, ap length c.self.view_is)) c.index_mut.ensures.value in
-    IfOk-weaker c.collect.result _ _ (λ answer given most all. given most (at_place (λ (slot : SlotView). AllByRecursion (λ it. it.window.most ≡ most) slot.windows) slots c.args.index x there (subst (AreOfMost most) (sym c.self.view_is) all))) c.collect.ensures.within
+    IfOk-weaker c.collect.result _ _ (λ answer given most all. given most (at_index (λ (slot : SlotView). AllByRecursion (λ it. it.window.most ≡ most) slot.windows) slots c.args.index x there (subst (AreOfMost most) (sym c.self.view_is) all))) c.collect.ensures.within
 
 pub returns-clause-most : goal.returns-clause-most
 returns-clause-most c = λ most all.

@@ -2,7 +2,7 @@
 
 /// Where a window is: the index of its slot, and its own index there.
 #[derive(Clone, Copy)]
-pub struct Place {
+pub struct WindowIndex {
     pub slot: usize,
     pub window: usize,
 }
