@@ -3,9 +3,10 @@ use Rattle.std.proofs.Common.{◌≡◌, ℕ, suc, ◌+◌, List, [], ◌∷◌,
 use Rattle.std.proofs.lemmas.List.{map-append}
 use Rattle.rl_records.specs.declared.step.ShardReply.{ShardReply}
 use Rattle.rl_records.specs.declared.step.ShardStep.{ShardStep}
-use Rattle.rl_workers.specs.Receipts.{PassView, HasAdded, receipt_of, receipts_of}
+use Rattle.rl_audit.specs.Merged.{receipt_of}
+use Rattle.rl_workers.specs.Receipts.{PassView, HasAdded, receipts_of}
 use Rattle.rl_workers.specs.Rulers.{AreDecidedBy}
-use Rattle.rl_workers.specs.declared.receipt.Receipt.{Receipt}
+use Rattle.rl_audit.specs.declared.receipt.Receipt.{Receipt}
 
 abbrev decided_at : (shard : ℕ) → ShardStep → ℕ × ShardReply → Receipt
 decided_at shard step answer = receipt_of shard answer.0 (record { step = step; reply = answer.1 })

@@ -18,7 +18,9 @@ use Rattle.rl_world.specs.declared.opened.Gathered.{Gathered}
 use Rattle.rl_world.specs.declared.opened.OpenEvaluation.{OpenEvaluation}
 use Rattle.rl_world.specs.declared.step.Committed.{Committed}
 use Rattle.rl_workers.specs.Receipts.{PassView}
-use Rattle.rl_workers.specs.Seats.{late_fault, opened_with, refusal_to_begin, refusal_to_commit, with_open, AreGathered, IsCommitted, IsLeftOpen, IsNotBegun, IsNotEvaluated, IsNotGathered, IsRefusedAfter, MayNotBegin, MayNotCommit}
+use Rattle.rl_audit.proofs.Answered.{given_all}
+use Rattle.rl_audit.specs.Driven.{opened_with, with_open}
+use Rattle.rl_workers.specs.Seats.{late_fault, refusal_to_begin, refusal_to_commit, AreGathered, IsCommitted, IsLeftOpen, IsNotBegun, IsNotEvaluated, IsNotGathered, IsRefusedAfter, MayNotBegin, MayNotCommit}
 use Rattle.rl_workers.specs.declared.fault.EvaluationFault.{EvaluationFault}
 use Rattle.rl_workers.specs.declared.fault.EvaluationFault.TheVariants as evaluations
 
@@ -77,13 +79,6 @@ ok_is None answer h = refl
 all_given : (answers : List Answer) → list_all is_some (map Some answers) ≡ true
 all_given [] = refl
 all_given (answer ∷ answers) = all_given answers
-
--- all shards answered
-pub given_all : (n t : ℕ) (answers : List Answer) → length answers ≡ n → opened_with n t answers ≡ record { t = t; gathered = map Some answers }
-given_all n t answers each =
-    let none : n - length answers ≡ 0 = omega (arith, each) in
-    ap (λ (k : ℕ). record { t = t; gathered = map Some answers ++ replicate k None }) none
-    ∙ ap (λ (given : List (Option Answer)). record { t = t; gathered = given }) (append-nil (map Some answers))
 
 pub complete_fault : (n t : ℕ) (answers : List Answer) (history : History (List Partial)) → length answers ≡ n → commit_fault (with_open (opened_with n t answers) history) ≡ cond (is_session_full history) (Some book_faults.SessionFull) None
 complete_fault n t answers history each =

@@ -1,5 +1,5 @@
 -- Sinks that are closed one after another, and what is counted of shards and their shares.
-use Rattle.std.proofs.Common.{◌≡◌, ◌⊎◌, inl, inr, ℕ, zero, suc, ◌+◌, ◌<◌, ◌≤◌, Bool, true, false, cond, if◌then◌else◌, List, [], ◌∷◌, ◌++◌, map, length, take, set, slice_get, slice_set, None, IfSome, refl, sym, ap, subst, ◌∙◌, arith, append_assoc, length-append}
+use Rattle.std.proofs.Common.{◌≡◌, ◌⊎◌, inl, inr, ℕ, zero, suc, ◌+◌, ◌<◌, ◌≤◌, Bool, true, false, cond, if◌then◌else◌, List, [], ◌∷◌, ◌++◌, map, length, take, get_or, set, slice_get, slice_set, None, IfSome, refl, sym, ap, subst, ◌∙◌, arith, append_assoc, length-append}
 use Rattle.std.proofs.lemmas.List.{append-nil, length-map, length-set, length-take-le, map-append, take_more_set}
 use Rattle.std.proofs.lemmas.List.Sums.{sum-map}
 use Rattle.std.specs.List.{AllByRecursion, sum, sum_by}
@@ -76,7 +76,7 @@ unclosed_in-more first (other ∷ books) book =
 -- the sink at the index was closed, and those before it were
 pub one_closed : (group k : ℕ) (book new : BookState) (failed : Bool) → k < length book.sinks → IfSome (slice_get book.sinks k) (λ own. new ≡ with_sinks book (slice_set book.sinks k (closed own failed)))
     → AllByRecursion (λ sink. sink.closed ≡ true) (take k book.sinks)
-    → (length new.sinks ≡ length book.sinks) × AllByRecursion (λ sink. sink.closed ≡ true) (take (k + 1) new.sinks) × (unclosed_of group 0 (take (k + 1) new.sinks) ≡ unclosed_of group 0 (take k book.sinks) ++ cond failed ((group, k) ∷ []) [])
+    → (length new.sinks ≡ length book.sinks) × AllByRecursion (λ sink. sink.closed ≡ true) (take (k + 1) new.sinks) × (unclosed_of group 0 (take (k + 1) new.sinks) ≡ unclosed_of group 0 (take k book.sinks) ++ cond failed ((group, k) ∷ []) []) × (new ≡ with_sinks book new.sinks)
 one_closed group k book new failed below is others =
     let own = there (λ own. new ≡ with_sinks book (slice_set book.sinks k (closed own failed))) book.sinks k below is in
     let sink : SinkState = closed own.0 failed in
@@ -86,7 +86,34 @@ one_closed group k book new failed below is others =
       ap length sinks ∙ length-set book.sinks k sink,
       subst (AllByRecursion (λ (s : SinkState). s.closed ≡ true)) (sym so_far) (each_more (λ (s : SinkState). s.closed ≡ true) (take k book.sinks) sink others refl),
       ap (unclosed_of group 0) so_far ∙ unclosed_of-more group 0 (take k book.sinks) sink ∙ ap (λ n. unclosed_of group 0 (take k book.sinks) ++ cond failed ((group, n) ∷ []) []) count,
+      own.1 ∙ ap (with_sinks book) (sym sinks),
     )
+
+-- a part of each item stays where an item is replaced by one with the same part
+pub same_part : {X Y : Type 0} (f : X → Y) (xs : List X) (i : ℕ) (x y : X) → get_or xs i x ≡ x → f y ≡ f x → map f (set xs i y) ≡ map f xs
+same_part f [] i x y here same = refl
+same_part f (z ∷ xs) zero x y here same = ap (λ first. first ∷ map f xs) (same ∙ ap f (sym here))
+same_part f (z ∷ xs) (suc i) x y here same = ap (λ rest. f z ∷ rest) (same_part f xs i x y here same)
+
+-- where a part of all items is the same, so is a part of it
+pub parts_of_parts : {X Y Z : Type 0} (f : X → Y) (h : Y → Z) (xs ys : List X) → map f xs ≡ map f ys → map (λ x. h (f x)) xs ≡ map (λ x. h (f x)) ys
+parts_of_parts {X = X} {Y = Y} f h xs ys same = sym (parts h xs) ∙ ap (map h) same ∙ parts h ys
+  where
+    parts : {W : Type 0} (h : Y → W) (xs : List X) → map h (map f xs) ≡ map (λ x. h (f x)) xs
+    parts h [] = refl
+    parts h (x ∷ xs) = ap (λ rest. h (f x) ∷ rest) (parts h xs)
+
+-- and what holds of it
+pub all_of_parts : {X Y : Type 0} (f : X → Y) (P : Y → Type 0) (xs ys : List X) → map f xs ≡ map f ys → AllByRecursion (λ x. P (f x)) ys → AllByRecursion (λ x. P (f x)) xs
+all_of_parts {X = X} f P xs ys same all = from xs (subst (AllByRecursion P) (sym same) (to ys all))
+  where
+    to : (xs : List X) → AllByRecursion (λ x. P (f x)) xs → AllByRecursion P (map f xs)
+    to [] all = tt
+    to (x ∷ xs) all = (all.0, to xs all.1)
+
+    from : (xs : List X) → AllByRecursion P (map f xs) → AllByRecursion (λ x. P (f x)) xs
+    from [] all = tt
+    from (x ∷ xs) all = (all.0, from xs all.1)
 
 -- the sinks of the book at the index were closed, and those of the books before it were
 pub books_closed : (nows : List BookState) (i : ℕ) (new : BookState) → i < length nows → AreClosed (take i nows) → AllByRecursion (λ sink. sink.closed ≡ true) new.sinks → AreClosed (take (i + 1) (set nows i new))

@@ -3,12 +3,13 @@ use Rattle.std.proofs.Common.{◌≡◌, inr, ℕ, List, [], ◌∷◌, ◌++◌
 use Rattle.rl_world.specs.WorldState.{BookState}
 use Rattle.rl_world.specs.Evaluating.{group_terms}
 use Rattle.rl_world.specs.declared.step.Committed.{Committed}
-use Rattle.rl_workers.specs.Receipts.{PassView, HasKept, note_of, receipts_asked}
+use Rattle.rl_audit.specs.Merged.{note_of}
+use Rattle.rl_workers.specs.Receipts.{PassView, HasKept, receipts_asked}
 use Rattle.rl_workers.specs.Rulers.{IsEvaluated, IsLeft, IsRefused}
 use Rattle.rl_workers.specs.Seats.{IsCommitted, IsNotEvaluated}
 use Rattle.rl_workers.specs.declared.fault.EvaluationFault.{EvaluationFault}
 use Rattle.rl_workers.specs.declared.fault.EvaluationFault.TheVariants as evaluations
-use Rattle.rl_workers.specs.declared.receipt.Receipt.{Receipt}
+use Rattle.rl_audit.specs.declared.receipt.Receipt.{Receipt}
 
 -- an evaluation that was committed, and is noted
 pub evaluated_from : (shards group t : ℕ) (old mid pass new : PassView) (book book_after : BookState) (made : Committed) → book.shards ≡ shards → HasKept old mid → IsCommitted t book mid made book_after pass → new.receipts ≡ pass.receipts → new.notes ≡ pass.notes ++ note_of group made ∷ []

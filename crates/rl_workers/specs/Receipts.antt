@@ -1,20 +1,16 @@
 -- What a pass holds, and what calls add to it.
 use Rattle.std.specs.Prelude.{◌≡◌, ℕ, suc, ◌+◌, List, [], ◌∷◌, ◌++◌}
-use Rattle.sha2.specs.Sha256.{sha256}
+use Rattle.rl_audit.specs.Merged.{receipt_of}
 use Rattle.rl_aggregate.specs.declared.partial.Partial.{Partial}
 use Rattle.rl_query.specs.declared.query.Term.{Term}
-use Rattle.rl_records.specs.RecordBytes.{digest_of}
 use Rattle.rl_records.specs.declared.record.Record.{Record}
 use Rattle.rl_records.specs.declared.step.ShardReply.{ShardReply}
 use Rattle.rl_records.specs.declared.step.ShardReply.TheVariants as replies
 use Rattle.rl_records.specs.declared.step.ShardStep.{ShardStep}
 use Rattle.rl_records.specs.declared.step.ShardStep.TheVariants as steps
-use Rattle.rl_sinks.specs.Texts.{tail_text}
 use Rattle.rl_world.specs.declared.opened.Gathered.{Gathered}
-use Rattle.rl_world.specs.declared.step.Committed.{Committed}
-use Rattle.rl_workers.specs.declared.receipt.Note.{Note}
-use Rattle.rl_workers.specs.declared.receipt.Note.TheVariants as notes
-use Rattle.rl_workers.specs.declared.receipt.Receipt.{Receipt}
+use Rattle.rl_audit.specs.declared.receipt.Note.{Note}
+use Rattle.rl_audit.specs.declared.receipt.Receipt.{Receipt}
 
 -- the receipts and the notes of a caller, and room for more without memory
 pub record PassView : Type 0 where
@@ -40,10 +36,6 @@ pub record HasAdded (old : PassView) (receipt : Receipt) (new : PassView) : Type
   pub receipt_room : new.receipt_room + 1 ≡ old.receipt_room
   pub note_room : new.note_room ≡ old.note_room
 
--- the receipt of a shard's record at a place
-abbrev pub receipt_of : (shard place : ℕ) → Record → Receipt
-receipt_of shard place it = record { shard = shard; place = place; digest = digest_of it }
-
 -- the receipts of a step that shards decided, from one on, each by the place of its record and its reply
 abbrev pub receipts_of : (shard : ℕ) → ShardStep → List (ℕ × ShardReply) → List Receipt
 receipts_of shard step [] = []
@@ -53,7 +45,3 @@ receipts_of shard step ((place, reply) ∷ answers) = receipt_of shard place (re
 abbrev pub receipts_asked : (shard slot : ℕ) → List Term → (t : ℕ) → List (Gathered (List Partial)) → List Receipt
 receipts_asked shard slot terms t [] = []
 receipts_asked shard slot terms t (answer ∷ answers) = receipt_of shard answer.place (record { step = steps.Collect slot terms t; reply = replies.Collected answer.shown }) ∷ receipts_asked (suc shard) slot terms t answers
-
--- the note of an evaluation that was committed
-abbrev pub note_of : (group : ℕ) → Committed → Note
-note_of group committed = notes.Evaluated group committed.number (sha256 (tail_text committed.evaluation))

@@ -10,7 +10,8 @@ use Rattle.rl_shard.specs.ShardStep.{IsAnswered}
 use Rattle.rl_world.specs.ShardAnswers.{most_in_shard}
 use Rattle.rl_world.specs.WorldState.{BookState}
 use Rattle.rl_world.specs.declared.step.Committed.{Committed}
-use Rattle.rl_workers.specs.Receipts.{PassView, HasKept, HasReceived, note_of, receipts_of}
+use Rattle.rl_audit.specs.Merged.{note_of}
+use Rattle.rl_workers.specs.Receipts.{PassView, HasKept, HasReceived, receipts_of}
 use Rattle.rl_workers.specs.Seats.{IsCommitted, IsNotEvaluated}
 use Rattle.rl_workers.specs.declared.fault.AllFault.{AllFault}
 use Rattle.rl_workers.specs.declared.fault.AllFault.TheVariants as faults
@@ -18,7 +19,7 @@ use Rattle.rl_workers.specs.declared.fault.EvaluationFault.{EvaluationFault}
 use Rattle.rl_workers.specs.declared.fault.EvaluationFault.TheVariants as evaluations
 use Rattle.rl_workers.specs.declared.fault.OpenFault.{OpenFault}
 use Rattle.rl_workers.specs.declared.fault.OpenFault.TheVariants as opens
-use Rattle.rl_workers.specs.declared.receipt.Note.TheVariants as notes
+use Rattle.rl_audit.specs.declared.receipt.Note.TheVariants as notes
 
 -- how many shards, groups and callers a ruler has
 pub record RulerView : Type 0 where

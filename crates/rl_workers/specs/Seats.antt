@@ -17,7 +17,9 @@ use Rattle.rl_world.specs.declared.fault.BookFault.TheVariants as book_faults
 use Rattle.rl_world.specs.declared.opened.Gathered.{Gathered}
 use Rattle.rl_world.specs.declared.opened.OpenEvaluation.{OpenEvaluation}
 use Rattle.rl_world.specs.declared.step.Committed.{Committed}
-use Rattle.rl_workers.specs.Receipts.{PassView, HasAdded, receipt_of, receipts_asked}
+use Rattle.rl_audit.specs.Driven.{opened_with, with_open}
+use Rattle.rl_audit.specs.Merged.{receipt_of}
+use Rattle.rl_workers.specs.Receipts.{PassView, HasAdded, receipts_asked}
 use Rattle.rl_workers.specs.declared.fault.EditFault.{EditFault}
 use Rattle.rl_workers.specs.declared.fault.EditFault.TheVariants as edits
 use Rattle.rl_workers.specs.declared.fault.EvaluationFault.{EvaluationFault}
@@ -30,13 +32,6 @@ pub record IsGathered (number : ℕ) (book : BookState) (pass : PassView) (book_
   pub moment : moment_of book.history ≡ Some t
   pub kept : book_after ≡ with_history book (gathered book.history number answer.place answer.shown)
   pub received : HasAdded pass (receipt_of number answer.place (record { step = steps.Collect book.slot (group_terms book.history.group) t; reply = replies.Collected answer.shown })) pass_after
-
--- an evaluation at a moment for which the first of so many shards answered
-abbrev pub opened_with : (shards t : ℕ) → List (Gathered (List Partial)) → OpenEvaluation (List Partial)
-opened_with shards t answers = record { t = t; gathered = map Some answers ++ replicate (shards - length answers) None }
-
-abbrev pub with_open : OpenEvaluation (List Partial) → History (List Partial) → History (List Partial)
-with_open opened history = record { first = history.first; records = history.records; items = history.items; group = history.group; evaluations = history.evaluations; opened = Some opened }
 
 -- a book opened an evaluation at a moment, and the first shards answered
 pub record AreGathered (count t : ℕ) (book : BookState) (pass : PassView) (book_after : BookState) (pass_after : PassView) : Type 0 where

@@ -3,14 +3,15 @@ ghost use Rattle.std.specs.Prelude.{◌≡◌, ◌<◌, length, IfOk, OnErr};
 ghost use Rattle.rl_records.specs.declared.step.ShardReply.TheVariants as replies;
 ghost use Rattle.rl_records.specs.declared.step.ShardStep.TheVariants as steps;
 ghost use Rattle.rl_world.specs.ShardAnswers.{AreOfOneShard};
-ghost use Rattle.rl_workers.specs.Receipts.{receipt_of, HasAdded};
+ghost use Rattle.rl_audit.specs.Merged.{receipt_of};
+ghost use Rattle.rl_workers.specs.Receipts.{HasAdded};
 ghost use Rattle.rl_workers.specs.Rulers.{IsAnsweredIn};
 
 use crate::crew::Crew;
 use crate::pass::Pass;
-use crate::receipt::Receipt;
 use crate::tally::Tally;
 use rl_aggregate::Partial;
+use rl_audit::Receipt;
 use rl_chunks::Store;
 use rl_labels::Ns;
 use rl_plain::{PlainList, Shared};

@@ -1,7 +1,9 @@
 //! Why a ruler refuses.
 ghost use Rattle.std.specs.Prelude.{◌≡◌};
+ghost use Rattle.rl_workers.specs.Closing.{close_fault};
 ghost use Rattle.rl_workers.specs.declared.fault.OpenFault.TheVariants as opens;
 
+use rl_audit::AuditFault;
 use rl_labels::Ns;
 use rl_shard::ShardFault;
 use std::alloc::{AllocError, AllocFailed};
@@ -87,6 +89,26 @@ pub enum CloseFault {
     /// Fewer passes came than were opened.
     #[error("a pass is missing")]
     PassMissing,
+    /// What the passes have, and what journals and histories have, differ, as the audit has it.
+    #[error("shard {shard} differs at place {place}")]
+    Mismatch { shard: usize, place: u64 },
+    #[error("the store's device failed")]
+    Fault,
+    #[error("a journal was missing or changed in the store")]
+    Damaged,
     #[error("out of memory")]
     Memory,
+}
+
+impl From<AuditFault> for CloseFault {
+    ghost from_gives = { λ fault e. e ≡ close_fault fault };
+
+    fn from(fault: AuditFault) -> Self {
+        match fault {
+            AuditFault::Mismatch { shard, place } => CloseFault::Mismatch { shard, place },
+            AuditFault::Fault => CloseFault::Fault,
+            AuditFault::Damaged => CloseFault::Damaged,
+            AuditFault::Memory => CloseFault::Memory,
+        }
+    }
 }

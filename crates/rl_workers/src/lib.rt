@@ -3,7 +3,7 @@
 //! A shard stands under a lock of its own, and so does the book of each group. What a caller is given for each record of a shard is a
 //! receipt, for each evaluation and each edit a note; two ledgers make sure that no record is without its receipt.
 //!
-//! - `ruler`: `Ruler`, its opening and its calls. `pass`: `Pass`, what a caller holds. `receipt`: `Receipt`, `Note`.
+//! - `ruler`: `Ruler`, its opening and its calls. `pass`: `Pass`, what a caller holds.
 //! - `ended`: what a ruler leaves when it is closed. `fault`: why calls are refused. `crew`: `Crew`, a ledger that says its parts.
 #![tactic(auto)]
 
@@ -14,7 +14,6 @@ pub mod ended;
 pub mod fault;
 mod opening;
 pub mod pass;
-pub mod receipt;
 pub mod ruler;
 mod seat;
 mod tally;
@@ -23,5 +22,5 @@ pub use crew::Crew;
 pub use ended::{Ended, NotClosed};
 pub use fault::{AllFault, CloseFault, EditFault, EvaluationFault, GroupFault, OpenFault};
 pub use pass::Pass;
-pub use receipt::{Note, Receipt};
+pub use rl_audit::{AuditFault, Note, Receipt};
 pub use ruler::Ruler;

@@ -3,7 +3,7 @@ ghost use Rattle.std.specs.Prelude.{◌≡◌, ◌+◌, ◌<◌, ◌≤◌, ◌+
 ghost use Rattle.rl_workers.specs.Receipts.{HasKept, HasReceived};
 
 use crate::crew::Crew;
-use crate::receipt::{Note, Receipt};
+use rl_audit::{Carrier, Note, Receipt};
 use std::alloc::{AllocError, Global};
 use std::marker::Model;
 use std::sync::ledger::Share;
@@ -45,20 +45,6 @@ impl<P: Crew> Pass<P> {
         }
     }
 
-    /// The receipts, in the order in which they came.
-    pub fn receipts(&self) -> &[Receipt]
-        ensures { result.now ≡ self.now.receipts }
-    {
-        &self.receipts
-    }
-
-    /// The notes, in the order in which they came.
-    pub fn notes(&self) -> &[Note]
-        ensures { result.now ≡ self.now.notes }
-    {
-        &self.notes
-    }
-
     // Makes room for so many receipts and notes more.
     pub(crate) fn reserve(&mut self, receipts: usize, notes: usize) -> Result<(), AllocError>
         ensures kept { HasKept self.old self.new }
@@ -75,5 +61,19 @@ impl<P: Crew> Pass<P> {
         ensures notes { self.new.notes ≡ self.old.notes ++ note ∷ [] }
     {
         self.notes.push_reserved(note);
+    }
+}
+
+impl<P: Crew> Carrier for Pass<P> {
+    ghost receipts = { λ pass. pass.receipts };
+
+    ghost notes = { λ pass. pass.notes };
+
+    fn receipts(&self) -> &[Receipt] {
+        &self.receipts
+    }
+
+    fn notes(&self) -> &[Note] {
+        &self.notes
     }
 }

@@ -4,7 +4,7 @@ ghost use Rattle.rl_workers.specs.Receipts.{PassView};
 
 use crate::crew::Crew;
 use crate::pass::Pass;
-use crate::receipt::Receipt;
+use rl_audit::Receipt;
 use std::sync::ledger::{Book, Share};
 
 /// How many records all journals have, and how many receipts all passes: as many.

@@ -3,8 +3,8 @@ use Rattle.std.proofs.Common.{◌≡◌, length, take, get_or, sym, ap, ◌∙�
 use Rattle.std.proofs.lemmas.List.Sums.{sum_by-drop_more}
 use Rattle.rl_world.proofs.Offers.{drop-rest, get_or-rest}
 use Rattle.rl_world.specs.WorldState.{BookState}
-use Rattle.rl_workers.specs.Closing.{unclosed_in, unclosed_of}
-use Rattle.rl_workers.proofs.Ending.{books_closed, books_unclosed, few_more, then_more}
+use Rattle.rl_workers.specs.Closing.{unclosed_in, unclosed_of, without_sinks}
+use Rattle.rl_workers.proofs.Ending.{books_closed, books_unclosed, few_more, same_part, then_more}
 use Rattle.rl_workers.proofs.closing.close_all.Goals as goal
 
 pub loop-group-preserved : goal.loop-group-preserved
@@ -18,6 +18,7 @@ loop-group-preserved g c =
     let here : get_or nows at book ≡ book = sym c.index-books-group.is in
     let read : get_or olds at book ≡ book = sym (get_or-rest olds nows at book so_far.rest) ∙ here in
     record {
+      same = same_part without_sinks nows at book new here (ap without_sinks c.close_sinks.ensures.rest ∙ ap without_sinks here) ∙ so_far.same;
       closed = books_closed nows at new (omega arith) so_far.closed c.close_sinks.ensures.closed;
       rest = drop-rest olds nows at new so_far.rest;
       unclosed = then_more c.args.unclosed.now.items c.loop-group.unclosed.items (unclosed_in 0 (take at nows)) (unclosed_of at 0 new.sinks) c.close_sinks.new.unclosed.items _ so_far.unclosed c.close_sinks.ensures.unclosed (books_unclosed nows at new (omega arith));

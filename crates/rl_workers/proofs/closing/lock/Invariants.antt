@@ -11,15 +11,15 @@ invariant-loop-shard g l =
     let shards = into_iter_items (zip_first l.shard-iterator) in
     let shares = into_iter_items (zip_second l.shard-iterator) in
     record {
-      count : length l.desks.items + length shards ≡ length l.fn.unlocked.shards.items;
+      count : length l.desks.items + length shards ≡ length l.fn.unlocked.rooms.shards.items;
       parts : AllByRecursion (λ share. share.parts ≡ 1) shares;
       amounts : map (λ share. share.amount) shares ≡ map (λ shard. length shard.journal) shards;
-      room : length l.fn.unlocked.shards.items ≤ vec_capacity l.desks;
+      room : length l.fn.unlocked.rooms.shards.items ≤ vec_capacity l.desks;
     }
 
 abbrev pub invariant-loop-book : goal.invariant-loop-book
 invariant-loop-book g l = record {
-  count : length l.seats.items + length l.book-iterator.rest.items ≡ length l.fn.unlocked.books.items;
+  count : length l.seats.items + length l.book-iterator.rest.items ≡ length l.fn.unlocked.rooms.books.items;
   seated : AllByRecursion (IsSeated g.L.Crew.all) l.book-iterator.rest.items;
-  room : length l.fn.unlocked.books.items ≤ vec_capacity l.seats;
+  room : length l.fn.unlocked.rooms.books.items ≤ vec_capacity l.seats;
 }

@@ -4,7 +4,8 @@ use Rattle.std.proofs.lemmas.Result.{err_from_is_err_and}
 use Rattle.rl_world.specs.History.{gather_fault}
 use Rattle.rl_world.specs.WorldState.{BookState}
 use Rattle.rl_workers.proofs.Committing.{not_begun}
-use Rattle.rl_workers.proofs.Gathering.{free_next, gathered_more, gathered_none}
+use Rattle.rl_audit.proofs.Answered.{free_after}
+use Rattle.rl_workers.proofs.Gathering.{gathered_more, gathered_none}
 use Rattle.rl_workers.proofs.seat.ask_each.Goals as goal
 
 pub returns-in_err-begin-clause-refused : goal.returns-in_err-begin-clause-refused
@@ -21,7 +22,7 @@ gather-requires-clause-free g c =
     let below : c.loop-number.number < c.args.book.now.shards = omega (arith, c.loop-number-test.true, c.len-number-end.ensures, c.requires.shards) in
     let few : length made.answers < c.args.book.now.shards = omega (arith, below, made.each) in
     subst (λ n. gather_fault c.loop-number.book.history n ≡ None) made.each
-    (ap (λ (b : BookState). gather_fault b.history (length made.answers)) made.kept ∙ free_next c.args.book.now.shards c.args.t made.answers c.args.book.now.history few)
+    (ap (λ (b : BookState). gather_fault b.history (length made.answers)) made.kept ∙ free_after c.args.book.now.shards c.args.t made.answers c.args.book.now.history few)
 
 pub loop-number-preserved : goal.loop-number-preserved
 loop-number-preserved g c =

@@ -4,7 +4,8 @@ use Rattle.rl_query.specs.declared.query.Term.{Term}
 use Rattle.rl_records.specs.declared.step.ShardReply.TheVariants as replies
 use Rattle.rl_records.specs.declared.step.ShardStep.TheVariants as steps
 use Rattle.rl_world.specs.Evaluating.{group_terms}
-use Rattle.rl_workers.specs.Receipts.{HasAdded, receipt_of}
+use Rattle.rl_audit.specs.Merged.{receipt_of}
+use Rattle.rl_workers.specs.Receipts.{HasAdded}
 use Rattle.rl_workers.proofs.seat.gather.Goals as goal
 
 pub returns-clause-gathered : goal.returns-clause-gathered

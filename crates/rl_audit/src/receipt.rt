@@ -1,6 +1,6 @@
 //! What a caller comes away with.
 ghost use Rattle.std.specs.Prelude.{◌≡◌};
-ghost use Rattle.rl_workers.specs.Receipts.{note_of};
+ghost use Rattle.rl_audit.specs.Merged.{note_of};
 
 use rl_plain::Shared;
 use rl_rules::Group;
@@ -40,7 +40,7 @@ pub enum Note {
 }
 
 /// The note of an evaluation of a group that was committed. Takes no memory.
-pub(crate) fn note_of(group: usize, committed: &Committed) -> Note
+pub fn note_of(group: usize, committed: &Committed) -> Note
     ensures { result ≡ note_of group committed.now }
 {
     Note::Evaluated {
