@@ -30,6 +30,7 @@ mod trouble;
 mod windows;
 mod windows_built;
 mod world;
+mod world_audit;
 mod world_steps;
 
 use cases::{case_in, meant};

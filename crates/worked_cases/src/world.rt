@@ -15,6 +15,7 @@ use crate::given::{Read, limits_in, number_in, words_of};
 use crate::output::push_value;
 use crate::streams::plan_in;
 use crate::trouble::Trouble;
+use crate::world_audit::push_audit;
 use crate::world_steps::{Asking, push_lines};
 use rl_chunks::{MemStore, SpoilStore};
 use rl_labels::Limits;
@@ -35,6 +36,7 @@ pub(crate) type Kept = SpoilStore<MemStore>;
 pub(crate) fn answer(output: &mut String, directive: &str, input: &str) -> Result<(), Trouble> {
     match directive {
         "run" => run(output, input),
+        "audit" => audited(output, input),
         "book" => book(output, input),
         "others" => others(output),
         _ => Err(Trouble::NoSuchDirective),
@@ -48,6 +50,18 @@ fn run(output: &mut String, input: &str) -> Result<(), Trouble> {
     let ended = push_lines(output, &mut world, lines);
     mem::forget(world);
     ended
+}
+
+// What an audit says of a world that was run, and of what callers came away with.
+fn audited(output: &mut String, input: &str) -> Result<(), Trouble> {
+    let (ran, callers) = input.rsplit_once("%%\n").ok_or(Trouble::BadInput)?;
+    let (settings, file, lines) = parts_of(ran)?;
+    let alloc = *output.allocator();
+    let mut world = opened(alloc, settings, file)?;
+    let mut unseen = String::new(alloc);
+    push_lines(&mut unseen, &mut world, lines.trim_end_matches('\n'))?;
+    let (mut shards, books) = world.into_parts();
+    push_audit(output, &mut shards, &books, callers.trim_end_matches('\n'))
 }
 
 // What a book on its own answers to each line.
