@@ -1,3 +1,4 @@
+pub mod Crossing
 pub mod Answered
 pub mod Marking
 pub mod Claiming

@@ -5,6 +5,7 @@
 //!
 //! - `ruler`: `Ruler`, its opening and its calls. `pass`: `Pass`, what a caller holds.
 //! - `ended`: what a ruler leaves when it is closed. `fault`: why calls are refused. `crew`: `Crew`, a ledger that says its parts.
+//! - `sending`: probes for what may cross to another thread.
 #![tactic(auto)]
 
 mod closing;
@@ -16,6 +17,7 @@ mod opening;
 pub mod pass;
 pub mod ruler;
 mod seat;
+pub mod sending;
 mod tally;
 
 pub use crew::Crew;
