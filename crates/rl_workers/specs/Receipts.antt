@@ -3,7 +3,6 @@ use Rattle.std.specs.Prelude.{◌≡◌, ℕ, suc, ◌+◌, List, [], ◌∷◌,
 use Rattle.rl_audit.specs.Merged.{receipt_of}
 use Rattle.rl_aggregate.specs.declared.partial.Partial.{Partial}
 use Rattle.rl_query.specs.declared.query.Term.{Term}
-use Rattle.rl_records.specs.declared.record.Record.{Record}
 use Rattle.rl_records.specs.declared.step.ShardReply.{ShardReply}
 use Rattle.rl_records.specs.declared.step.ShardReply.TheVariants as replies
 use Rattle.rl_records.specs.declared.step.ShardStep.{ShardStep}

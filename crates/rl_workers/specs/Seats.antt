@@ -1,5 +1,5 @@
 -- Evaluations and edits of a book, with what a pass has of them.
-use Rattle.std.specs.Prelude.{◌≡◌, ◌⊎◌, ℕ, ◌+◌, ◌-◌, ◌<◌, List, ◌++◌, map, length, replicate, None, Some, true, false}
+use Rattle.std.specs.Prelude.{◌≡◌, ◌⊎◌, ℕ, ◌+◌, ◌<◌, List, ◌++◌, map, length, None, Some, true, false}
 use Rattle.rl_aggregate.specs.declared.partial.Partial.{Partial}
 use Rattle.rl_labels.specs.Name.{is_text}
 use Rattle.rl_plain.specs.declared.refusal.OrMemory.{OrMemory}
@@ -9,13 +9,12 @@ use Rattle.rl_records.specs.declared.step.ShardStep.TheVariants as steps
 use Rattle.rl_rules.specs.declared.rule.Group.{Group}
 use Rattle.rl_world.specs.BookCalls.{moment_of, with_history}
 use Rattle.rl_world.specs.Evaluating.{group_terms}
-use Rattle.rl_world.specs.History.{History, alerts_of, begin_fault, committed, gathered, is_session_full}
+use Rattle.rl_world.specs.History.{alerts_of, begin_fault, committed, gathered, is_session_full}
 use Rattle.rl_world.specs.Kept.{evaluation_from}
 use Rattle.rl_world.specs.WorldState.{BookState}
 use Rattle.rl_world.specs.declared.fault.BookFault.{BookFault}
 use Rattle.rl_world.specs.declared.fault.BookFault.TheVariants as book_faults
 use Rattle.rl_world.specs.declared.opened.Gathered.{Gathered}
-use Rattle.rl_world.specs.declared.opened.OpenEvaluation.{OpenEvaluation}
 use Rattle.rl_world.specs.declared.step.Committed.{Committed}
 use Rattle.rl_audit.specs.Driven.{opened_with, with_open}
 use Rattle.rl_audit.specs.Merged.{receipt_of}
