@@ -1,10 +1,7 @@
 //! What the record of a shard's journal says of an evaluation.
-ghost use Rattle.std.specs.Prelude.{◌≡◌, ◌≤◌, ◌+◌, ◌*◌, map, length, IfOk, IfSome, IsTrue};
-ghost use Rattle.std.specs.FinMap.{entries};
-ghost use Rattle.std.specs.List.{sum_by, AllByRecursion};
+ghost use Rattle.std.specs.Prelude.{◌≡◌, length, IfOk, IfSome, IsTrue};
+ghost use Rattle.std.specs.List.{AllByRecursion};
 ghost use Rattle.rl_aggregate.specs.Limited.{IsWithin};
-ghost use Rattle.rl_labels.specs.EntryParts.{longest_line};
-ghost use Rattle.rl_records.specs.declared.step.ShardReply.TheVariants as replies;
 ghost use Rattle.rl_records.specs.declared.step.ShardStep.TheVariants as steps;
 ghost use Rattle.rl_world.specs.ShardAnswers.{most_in_shard, AreOfOneShard};
 ghost use Rattle.rl_audit.specs.Founded.{IsAsked};

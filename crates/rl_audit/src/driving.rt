@@ -1,7 +1,6 @@
 //! Books that are driven anew.
-ghost use Rattle.std.specs.Prelude.{◌≡◌, ◌<◌, ◌≤◌, ◌-◌, None, Some, [], map, length, slice_get, IfOk, IfSome, IsTrue, OnOk};
+ghost use Rattle.std.specs.Prelude.{◌≡◌, ◌<◌, ◌≤◌, None, [], map, length, IfOk, IsTrue, OnOk};
 ghost use Rattle.std.specs.List.{AllZip};
-ghost use Rattle.rl_rules.specs.declared.evaluation.Evaluation.{Evaluation};
 ghost use Rattle.rl_world.specs.BookCalls.{new_book, with_history};
 ghost use Rattle.rl_world.specs.Evaluating.{group_terms};
 ghost use Rattle.rl_world.specs.History.{alerts_of, committed, edited, gather_fault, gathered};
