@@ -24,5 +24,5 @@ pub use crew::Crew;
 pub use ended::{Ended, NotClosed};
 pub use fault::{AllFault, CloseFault, EditFault, EvaluationFault, GroupFault, OpenFault};
 pub use pass::Pass;
-pub use rl_audit::{AuditFault, Note, Receipt};
+pub use rl_audit::{AuditFault, Carrier, Note, Receipt};
 pub use ruler::Ruler;
