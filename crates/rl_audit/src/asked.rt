@@ -21,14 +21,14 @@ const MOST_BYTES: u64 = MOST_LINES * 65_535;
 
 /// What a group asks of each shard: terms at a moment, under the number of its slot.
 #[derive(Drop)]
-pub struct Question {
-    pub slot: u64,
-    pub terms: Terms,
-    pub t: Ns,
+pub(crate) struct Question {
+    pub(crate) slot: u64,
+    pub(crate) terms: Terms,
+    pub(crate) t: Ns,
 }
 
 /// The partials that a shard's record at a place has, if it is the answered question.
-pub fn partials_at<D: Store>(
+pub(crate) fn partials_at<D: Store>(
     shard: &mut Shard<D>,
     place: u64,
     question: &Question,

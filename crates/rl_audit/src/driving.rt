@@ -25,7 +25,7 @@ const MOST_RECORDS: u64 = 1_048_576;
 
 /// Whether each evaluation of a book is what the partials give that the records at its places have, and its places are behind those
 /// of the one before. A book without sinks is driven anew through the history. Mismatch has the first evaluation that differs.
-pub fn audit_book<D: Store, S: Sink>(
+pub(crate) fn audit_book<D: Store, S: Sink>(
     alloc: Global,
     shards: &mut [Shard<D>],
     book: &Book<S>,

@@ -8,15 +8,15 @@
 //! - `auditing`: `audit`, all of it. `fault`: why it refuses.
 #![tactic(auto)]
 
-pub mod asked;
+mod asked;
 pub mod auditing;
 pub mod carrier;
-pub mod driving;
+mod driving;
 pub mod fault;
-pub mod marks;
-pub mod notes;
+mod marks;
+mod notes;
 pub mod receipt;
-pub mod receipts;
+mod receipts;
 
 pub use auditing::audit;
 pub use carrier::Carrier;

@@ -9,17 +9,17 @@ use std::alloc::{AllocError, Global};
 
 /// Marks of the places of columns. Callers claim places one after the other: each place once, and in each column in rising order.
 #[derive(Drop)]
-pub struct Marks {
+pub(crate) struct Marks {
     /// Of each column, whether each of its places is claimed.
-    pub marks: Vec<PlainList<bool>>,
+    pub(crate) marks: Vec<PlainList<bool>>,
     /// Of each column, the first index that the caller may claim.
-    pub nexts: PlainList<usize>,
+    pub(crate) nexts: PlainList<usize>,
     ghost each: { length nexts ≡ length marks.items },
 }
 
 impl Marks {
     /// No place is claimed, of columns of these sizes.
-    pub fn new(alloc: Global, sizes: &[usize]) -> Result<Self, AllocError>
+    pub(crate) fn new(alloc: Global, sizes: &[usize]) -> Result<Self, AllocError>
         ensures sizes { IfOk result (λ made. map length made.marks.items ≡ sizes.now) }
         ensures fresh { IfOk result (λ made. StandFor made.marks.items made.nexts [] []) }
     {
@@ -32,7 +32,7 @@ impl Marks {
     }
 
     /// Claims a place, unless it is claimed, or before one that the caller has claimed in its column, or there is no such place.
-    pub fn claim(&mut self, column: usize, place: usize) -> bool
+    pub(crate) fn claim(&mut self, column: usize, place: usize) -> bool
         ensures sizes { map length self.new.marks.items ≡ map length self.old.marks.items }
         ensures claimed { IsTrue result → (before own : List Place) → StandFor self.old.marks.items self.old.nexts before own → StandFor self.new.marks.items self.new.nexts before (own ++ (column, place) ∷ []) }
         ensures refused { result ≡ false → self.new ≡ self.old }
@@ -62,7 +62,7 @@ impl Marks {
     }
 
     /// Another caller claims places from now on.
-    pub fn next_caller(&mut self)
+    pub(crate) fn next_caller(&mut self)
         ensures sizes { map length self.new.marks.items ≡ map length self.old.marks.items }
         ensures begun { (before own : List Place) → StandFor self.old.marks.items self.old.nexts before own → StandFor self.new.marks.items self.new.nexts (before ++ own) [] }
     {
@@ -72,7 +72,7 @@ impl Marks {
     }
 
     /// The first place that is not claimed, if there is one.
-    pub fn unclaimed(&self) -> Option<(usize, usize)>
+    pub(crate) fn unclaimed(&self) -> Option<(usize, usize)>
         ensures all { IfNone result ((place : Place) → IfSome (item_at self.now.marks.items place) (λ mark. mark ≡ true)) }
         ensures one { IfSome result (λ place. item_at self.now.marks.items place ≡ Some false) }
     {

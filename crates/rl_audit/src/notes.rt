@@ -28,7 +28,7 @@ struct Index {
 
 /// Whether the notes of all callers name each evaluation and each edit of the books once and nothing else, each as it was, and those
 /// of one caller rise in each book. Mismatch has the first note that does not, else the first item that none names.
-pub fn audit_notes<S: Sink, C: Carrier>(
+pub(crate) fn audit_notes<S: Sink, C: Carrier>(
     alloc: Global,
     books: &[Book<S>],
     callers: &[C],

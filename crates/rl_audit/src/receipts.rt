@@ -17,7 +17,7 @@ use std::alloc::{AllocError, Global};
 
 /// Whether the receipts of all callers name each record of the shards' journals once and nothing else, each by its digest, and those
 /// of one caller rise in each journal. Mismatch has the first receipt that does not, else the first record that none names.
-pub fn audit_receipts<D: Store, C: Carrier>(
+pub(crate) fn audit_receipts<D: Store, C: Carrier>(
     alloc: Global,
     shards: &mut [Shard<D>],
     callers: &[C],

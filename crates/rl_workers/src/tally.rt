@@ -22,17 +22,17 @@ pub(crate) struct Tally<L: Crew, P: Crew> {
 
 impl<L: Crew, P: Crew> Tally<L, P> {
     // Counts a record of a shard, and gives its receipt to a pass, which has room for it.
-    pub(crate) fn count(&mut self, record: &mut Share<L>, pass: &mut Pass<P>, receipt: Receipt)
-        requires part { 0 < record.old.parts }
+    pub(crate) fn count(&mut self, of_shard: &mut Share<L>, pass: &mut Pass<P>, receipt: Receipt)
+        requires part { 0 < of_shard.old.parts }
         requires room { 0 < pass.old.receipt_room }
-        ensures parts { record.new.parts ≡ record.old.parts }
-        ensures amount { record.new.amount ≡ record.old.amount + 1 }
+        ensures parts { of_shard.new.parts ≡ of_shard.old.parts }
+        ensures amount { of_shard.new.amount ≡ of_shard.old.amount + 1 }
         ensures receipts { pass.new.receipts ≡ pass.old.receipts ++ receipt ∷ [] }
         ensures notes { pass.new.notes ≡ pass.old.notes }
         ensures receipt_room { pass.new.receipt_room + 1 ≡ pass.old.receipt_room }
         ensures note_room { pass.new.note_room ≡ pass.old.note_room }
     {
-        self.records.add(record, 1);
+        self.records.add(of_shard, 1);
         self.receipts.add(&mut pass.share, 1);
         pass.receipts.push_reserved(receipt);
     }
