@@ -203,7 +203,7 @@ fn lines(partial: &Partial) -> u64 {
     lines
 }
 
-// At 15 seconds, from 0 seconds on and from behind 5 seconds on.
+// At 15 seconds, from 0 seconds on and from after 5 seconds on.
 const QUERIES: [&str; 2] = [
     r#"count_over_time({app="a"}[20s])"#,
     r#"count_over_time({app="a"}[10s])"#,
@@ -264,7 +264,7 @@ fn turns<L: Live>(rt: &impl Abort, shard: &mut L, step: &ShardStep, counts: (u64
     shows(rt, shard, counts.1);
 }
 
-// Asks for each step, behind which windows show so many lines.
+// Asks for each step, after which windows show so many lines.
 fn turns_each<L: Live>(rt: &impl Abort, shard: &mut L, steps: &[ShardStep], counts: &[u64]) {
     let mut before = 10;
     shows(rt, shard, before);

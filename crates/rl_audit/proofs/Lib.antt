@@ -1,6 +1,6 @@
 pub mod Crossing
 pub mod Answered
-pub mod Marking
+pub mod Flagging
 pub mod Claiming
 pub mod Noting
 pub mod FromScratch

@@ -1,4 +1,4 @@
--- Where evaluations stand in a history, and notes that tell the truth of its items.
+-- Where evaluations stand in a history, and notes that describe its items.
 use Rattle.std.proofs.Common.{◌≡◌, ℕ, zero, suc, ◌+◌, ◌<◌, ◌≤◌, cond, List, [], ◌∷◌, ◌++◌, drop, get_or, length, map, slice_index_or, Some, None, refl, sym, ap, subst, ◌∙◌, add-one, append-nil, append_assoc, arith}
 use Rattle.std.specs.Prelude.{slice_get}
 use Rattle.std.proofs.lemmas.List.{drop_more, get_or-map, length_push}
@@ -12,7 +12,7 @@ use Rattle.rl_world.specs.History.{evaluations_in}
 use Rattle.rl_world.specs.declared.item.Item.{Item}
 use Rattle.rl_world.specs.declared.item.Item.TheVariants as kinds
 use Rattle.rl_audit.specs.Claims.{IsRight}
-use Rattle.rl_audit.specs.Merged.{evaluation_indices, is_evaluated, item_of, Tells}
+use Rattle.rl_audit.specs.Merged.{evaluation_indices, is_evaluated, item_of, Describes}
 use Rattle.rl_audit.specs.declared.receipt.Note.TheVariants as notes
 
 -- INDICES
@@ -94,14 +94,14 @@ sizes_there items xs = sym (map-map (length {A = Item}) items xs)
 
 -- a note that has the digest of an evaluation, and one that has the group as it was edited
 pub right_evaluated : (histories : List (List Item)) (items : List Item) (group number index : ℕ) (digest : List ℕ) (evaluation : Evaluation) → items ≡ get_or histories group [] → index ≡ slice_index_or (evaluation_indices 0 items) number (length items)
-    → slice_get items index ≡ Some (kinds.Evaluated evaluation) → digest ≡ sha256 (tail_text evaluation) → IsRight histories (item_of histories) Tells (notes.Evaluated group number digest)
+    → slice_get items index ≡ Some (kinds.Evaluated evaluation) → digest ≡ sha256 (tail_text evaluation) → IsRight histories (item_of histories) Describes (notes.Evaluated group number digest)
 right_evaluated histories items group number index digest evaluation own at there digest_is = record {
   item = kinds.Evaluated evaluation;
   there = subst (λ (own : List Item). slice_get own (slice_index_or (evaluation_indices 0 own) number (length own)) ≡ Some (kinds.Evaluated evaluation)) own (ap (slice_get items) (sym at) ∙ there);
   holds = digest_is;
 }
 
-pub right_edited : (histories : List (List Item)) (items : List Item) (group index : ℕ) (to : Group) → items ≡ get_or histories group [] → slice_get items index ≡ Some (kinds.Edited to) → IsRight histories (item_of histories) Tells (notes.Edited group index to)
+pub right_edited : (histories : List (List Item)) (items : List Item) (group index : ℕ) (to : Group) → items ≡ get_or histories group [] → slice_get items index ≡ Some (kinds.Edited to) → IsRight histories (item_of histories) Describes (notes.Edited group index to)
 right_edited histories items group index to own there = record {
   item = kinds.Edited to;
   there = ap (λ (own : List Item). slice_get own index) (sym own) ∙ there;

@@ -42,11 +42,11 @@ holds_there P xs n x there holds = subst (λ maybe. IfSome maybe P) (sym there) 
 
 -- PLACES
 
--- an evaluation asks each shard behind where another one asked it
+-- an evaluation asks each shard after where another one asked it
 abbrev IsBefore : Evaluation → Evaluation → Type 0
 IsBefore one next = AllZip (λ place later. place < later) one.places next.places
 
--- it does so behind the last one, if there is one
+-- it does so after the last one, if there is one
 abbrev IsAfterAll : List Evaluation → Evaluation → Type 0
 IsAfterAll evaluations evaluation = IfSome (slice_get evaluations (length evaluations - 1)) (λ last. IsBefore last evaluation)
 

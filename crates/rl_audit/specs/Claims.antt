@@ -13,7 +13,7 @@ item_at columns place = slice_get (slice_index_or columns place.0 []) place.1
 abbrev pub is_place : Place → Place → Bool
 is_place place other = (place.0 == other.0) && (place.1 == other.1)
 
--- places rise: in each column each is behind those before it
+-- places rise: in each column each is after those before it
 abbrev pub AreRising : List Place → Type 0
 AreRising [] = Unit {0}
 AreRising (place ∷ places) = AllByRecursion (λ later. later.0 ≡ place.0 → place.1 < later.1) places × AreRising places

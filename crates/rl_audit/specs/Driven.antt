@@ -14,7 +14,7 @@ use Rattle.rl_world.specs.declared.opened.Gathered.{Gathered}
 use Rattle.rl_world.specs.declared.opened.OpenEvaluation.{OpenEvaluation}
 use Rattle.rl_audit.specs.Founded.{IsAsked, IsFounded, IfEvaluated}
 
--- the places of an evaluation are behind those of the last one of a history, if there is one
+-- the places of an evaluation are after those of the last one of a history, if there is one
 abbrev pub IsLater : History (List Partial) → Evaluation → Type 0
 IsLater history evaluation = IfSome (slice_get history.evaluations (length history.evaluations - 1)) (λ last. AllZip (λ place later. place < later) last.places evaluation.places)
 

@@ -1,5 +1,5 @@
 pub mod Claims
-pub mod Marked
+pub mod Flagged
 pub mod Merged
 pub mod Founded
 pub mod Faults

@@ -64,12 +64,12 @@ abbrev pub item_of : (histories : List (List Item)) → Note → Place
 item_of histories note = (group_of note, index_of (slice_index_or histories (group_of note) []) note)
 
 -- a note has the digest of what a tail is given of an evaluation, or the group as it was edited
-abbrev pub Tells : Note → Item → Type 0
-Tells (notes.Evaluated group number digest) (kinds.Evaluated evaluation) = digest ≡ sha256 (tail_text evaluation)
-Tells (notes.Edited group index to) (kinds.Edited next) = to ≡ next
-Tells note item = ⊥
+abbrev pub Describes : Note → Item → Type 0
+Describes (notes.Evaluated group number digest) (kinds.Evaluated evaluation) = digest ≡ sha256 (tail_text evaluation)
+Describes (notes.Edited group index to) (kinds.Edited next) = to ≡ next
+Describes note item = ⊥
 
 -- the notes of all callers name each evaluation and each edit of the histories once and nothing else, each as it was, and in each
 -- history the items of one caller rise
 abbrev pub AreNoted : (histories : List (List Item)) → List (List Note) → Type 0
-AreNoted histories callers = AreClaimed histories (item_of histories) Tells callers
+AreNoted histories callers = AreClaimed histories (item_of histories) Describes callers

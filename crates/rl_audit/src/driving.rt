@@ -23,7 +23,7 @@ use std::alloc::{AllocError, Global};
 // The most edits and evaluations of a book.
 const MOST_RECORDS: u64 = 1_048_576;
 
-/// Whether each evaluation of a book is what the partials give that the records at its places have, and its places are behind those
+/// Whether each evaluation of a book is what the partials give that the records at its places have, and its places are after those
 /// of the one before. A book without sinks is driven anew through the history. Mismatch has the first evaluation that differs.
 pub(crate) fn audit_book<D: Store, S: Sink>(
     alloc: Global,
@@ -123,7 +123,7 @@ fn evaluate_again<D: Store, S: Sink>(
     }
 }
 
-// Whether the places of an evaluation are behind those of the last one.
+// Whether the places of an evaluation are after those of the last one.
 fn is_later<S: Sink>(driven: &Book<S>, evaluation: &Evaluation) -> bool
     ensures { IsTrue result → IsLater driven.now.history evaluation.now }
 {
@@ -132,13 +132,13 @@ fn is_later<S: Sink>(driven: &Book<S>, evaluation: &Evaluation) -> bool
         return true;
     }
     match driven.evaluation(count - 1) {
-        Some(last) => are_behind(last.places.as_slice(), evaluation.places.as_slice()),
+        Some(last) => are_after(last.places.as_slice(), evaluation.places.as_slice()),
         None => true,
     }
 }
 
 // Whether there are as many places as others, each before the other.
-fn are_behind(places: &[u64], later: &[u64]) -> bool
+fn are_after(places: &[u64], later: &[u64]) -> bool
     ensures { IsTrue result → AllZip (λ place later. place < later) places.now later.now }
 {
     places.len() == later.len() && places.iter().zip(later).all(|(place, later)| place < later)

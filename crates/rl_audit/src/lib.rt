@@ -3,7 +3,7 @@
 //! It works on plain slices, with no lock and no ledger. Nothing but what is stored is trusted: the digest of each receipt is compared
 //! with the one of the record, and each evaluation is made anew of the partials in the journals.
 //!
-//! - `receipt`: `Receipt`, `Note`. `carrier`: `Carrier`, who carries them. `marks`: `Marks`, which places are claimed.
+//! - `receipt`: `Receipt`, `Note`. `carrier`: `Carrier`, who carries them. `flags`: `Flags`, which places are claimed.
 //! - `receipts`, `notes`: the audit of each. `driving`: books that are driven anew. `asked`: what records say of evaluations.
 //! - `auditing`: `audit`, all of it. `fault`: why it refuses.
 #![tactic(auto)]
@@ -13,7 +13,7 @@ pub mod auditing;
 pub mod carrier;
 mod driving;
 pub mod fault;
-mod marks;
+mod flags;
 mod notes;
 pub mod receipt;
 mod receipts;

@@ -2,16 +2,16 @@
 ghost use Rattle.std.specs.Prelude.{◌≡◌, ◌++◌, ◌∷◌, [], if◌then◌else◌, List, Some, map, length, slice_get, slice_index_or, IfOk, IfSome, IsSome, IsTrue, OnOk};
 ghost use Rattle.std.specs.List.{AllByRecursion};
 ghost use Rattle.rl_audit.specs.Claims.{IsRight, Place};
-ghost use Rattle.rl_audit.specs.Marked.{StandFor};
+ghost use Rattle.rl_audit.specs.Flagged.{StandFor};
 ghost use Rattle.rl_rules.specs.declared.evaluation.Evaluation.{Evaluation};
 ghost use Rattle.rl_sinks.specs.Texts.{tail_text};
 ghost use Rattle.rl_world.specs.declared.item.Item.TheVariants as kinds;
 ghost use Rattle.sha2.specs.Sha256.{sha256};
-ghost use Rattle.rl_audit.specs.Merged.{evaluation_indices, is_evaluated, item_of, AreNoted, Tells};
+ghost use Rattle.rl_audit.specs.Merged.{evaluation_indices, is_evaluated, item_of, AreNoted, Describes};
 
 use crate::carrier::Carrier;
 use crate::fault::AuditFault;
-use crate::marks::Marks;
+use crate::flags::Flags;
 use crate::receipt::Note;
 use rl_plain::{PlainList, Same};
 use rl_rules::{Evaluation, Group};
@@ -36,12 +36,12 @@ pub(crate) fn audit_notes<S: Sink, C: Carrier>(
     ensures { OnOk result (AreNoted (map (λ book. book.history.items) books.now) (map C.notes callers.now)) }
 {
     let indices = indices_of(alloc, books)?;
-    let mut marks = Marks::new(alloc, &sizes_of(alloc, &indices)?)?;
+    let mut flags = Flags::new(alloc, &sizes_of(alloc, &indices)?)?;
     for caller in callers {
-        claim_all(&mut marks, books, &indices, caller.notes())?;
-        marks.next_caller();
+        claim_all(&mut flags, books, &indices, caller.notes())?;
+        flags.next_caller();
     }
-    match marks.unclaimed() {
+    match flags.unclaimed() {
         Some((group, index)) => Err(mismatch_at(books, group, index as u64)),
         None => Ok(()),
     }
@@ -103,34 +103,34 @@ fn sizes_of(alloc: Global, indices: &[Index]) -> Result<Vec<usize>, AllocError>
     Ok(sizes)
 }
 
-// A caller claims the item of each note, of which it tells the truth.
+// A caller claims the item of each note, which it describes.
 fn claim_all<S: Sink>(
-    marks: &mut Marks,
+    flags: &mut Flags,
     books: &[Book<S>],
     indices: &[Index],
     notes: &[Note],
 ) -> Result<(), AuditFault>
     requires { map (λ own. own.evaluations) indices.now ≡ map (λ book. evaluation_indices 0 book.history.items) books.now }
-    ensures sizes { map length marks.new.marks.items ≡ map length marks.old.marks.items }
-    ensures claimed { OnOk result ((before : List Place) → StandFor marks.old.marks.items marks.old.nexts before [] → StandFor marks.new.marks.items marks.new.nexts before (map (item_of (map (λ book. book.history.items) books.now)) notes.now)) }
-    ensures right { OnOk result (AllByRecursion (IsRight (map (λ book. book.history.items) books.now) (item_of (map (λ book. book.history.items) books.now)) Tells) notes.now) }
+    ensures sizes { map length flags.new.flags.items ≡ map length flags.old.flags.items }
+    ensures claimed { OnOk result ((before : List Place) → StandFor flags.old.flags.items flags.old.nexts before [] → StandFor flags.new.flags.items flags.new.nexts before (map (item_of (map (λ book. book.history.items) books.now)) notes.now)) }
+    ensures right { OnOk result (AllByRecursion (IsRight (map (λ book. book.history.items) books.now) (item_of (map (λ book. book.history.items) books.now)) Describes) notes.now) }
 {
     for note in notes {
         let Some((group, index)) = item_of(books, indices, note) else {
             return Err(mismatch_of(books, note));
         };
-        if !marks.claim(group, index) {
+        if !flags.claim(group, index) {
             return Err(mismatch_of(books, note));
         }
     }
     Ok(())
 }
 
-// The item that a note names, if it tells the truth of it.
+// The item that a note names, if it describes it.
 fn item_of<S: Sink>(books: &[Book<S>], indices: &[Index], note: &Note) -> Option<(usize, usize)>
     requires { map (λ own. own.evaluations) indices.now ≡ map (λ book. evaluation_indices 0 book.history.items) books.now }
     ensures named { IfSome result (λ place. place ≡ item_of (map (λ book. book.history.items) books.now) note.now) }
-    ensures right { IsSome result → IsRight (map (λ book. book.history.items) books.now) (item_of (map (λ book. book.history.items) books.now)) Tells note.now }
+    ensures right { IsSome result → IsRight (map (λ book. book.history.items) books.now) (item_of (map (λ book. book.history.items) books.now)) Describes note.now }
 {
     match note {
         Note::Evaluated {

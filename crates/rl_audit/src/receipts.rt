@@ -2,13 +2,13 @@
 ghost use Rattle.std.specs.Prelude.{◌≡◌, [], List, map, length, IfOk, IsTrue, OnOk};
 ghost use Rattle.std.specs.List.{AllByRecursion};
 ghost use Rattle.rl_audit.specs.Claims.{AreClaimed, IsRight, Place};
-ghost use Rattle.rl_audit.specs.Marked.{StandFor};
+ghost use Rattle.rl_audit.specs.Flagged.{StandFor};
 ghost use Rattle.rl_audit.specs.Merged.{place_of, AreMerged, IsOf};
 ghost use Rattle.rl_records.specs.RecordBytes.{digest_of};
 
 use crate::carrier::Carrier;
 use crate::fault::AuditFault;
-use crate::marks::Marks;
+use crate::flags::Flags;
 use crate::receipt::Receipt;
 use rl_chunks::Store;
 use rl_plain::PlainList;
@@ -53,12 +53,12 @@ fn audit_digests<C: Carrier>(
 ) -> Result<(), AuditFault>
     ensures { OnOk result (AreClaimed digests.now place_of IsOf (map C.receipts callers.now)) }
 {
-    let mut marks = Marks::new(alloc, &sizes_of(alloc, digests)?)?;
+    let mut flags = Flags::new(alloc, &sizes_of(alloc, digests)?)?;
     for caller in callers {
-        claim_all(&mut marks, digests, caller.receipts())?;
-        marks.next_caller();
+        claim_all(&mut flags, digests, caller.receipts())?;
+        flags.next_caller();
     }
-    match marks.unclaimed() {
+    match flags.unclaimed() {
         Some((shard, place)) => Err(AuditFault::Mismatch {
             shard,
             place: place as u64,
@@ -80,17 +80,17 @@ fn sizes_of(alloc: Global, digests: &[PlainList<[u8; 32]>]) -> Result<Vec<usize>
 
 // A caller claims the place of each receipt, which has the digest there.
 fn claim_all(
-    marks: &mut Marks,
+    flags: &mut Flags,
     digests: &[PlainList<[u8; 32]>],
     receipts: &[Receipt],
 ) -> Result<(), AuditFault>
-    ensures sizes { map length marks.new.marks.items ≡ map length marks.old.marks.items }
-    ensures claimed { OnOk result ((before : List Place) → StandFor marks.old.marks.items marks.old.nexts before [] → StandFor marks.new.marks.items marks.new.nexts before (map place_of receipts.now)) }
+    ensures sizes { map length flags.new.flags.items ≡ map length flags.old.flags.items }
+    ensures claimed { OnOk result ((before : List Place) → StandFor flags.old.flags.items flags.old.nexts before [] → StandFor flags.new.flags.items flags.new.nexts before (map place_of receipts.now)) }
     ensures right { OnOk result (AllByRecursion (IsRight digests.now place_of IsOf) receipts.now) }
 {
     for receipt in receipts {
         let (shard, place) = (receipt.shard, receipt.place);
-        if !has_digest(digests, receipt) || !marks.claim(shard, place as usize) {
+        if !has_digest(digests, receipt) || !flags.claim(shard, place as usize) {
             return Err(AuditFault::Mismatch { shard, place });
         }
     }

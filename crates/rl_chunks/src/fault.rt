@@ -14,7 +14,7 @@ pub enum ChunkFault {
     CutShort,
     #[error("a line is not above the line before it")]
     Disorder,
-    #[error("bytes stand behind the last line")]
+    #[error("bytes follow the last line")]
     TrailingBytes,
 }
 

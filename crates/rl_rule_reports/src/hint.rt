@@ -53,10 +53,7 @@ fn push_near_syntax(text: &mut String, front: &str, back: &str) -> Result<(), Ou
         return push(text, SECONDS);
     }
     if ends_comparison(front) && is_too_long(first_number(back)) {
-        return push(
-            text,
-            "at most 15 digits before the point and nine behind it",
-        );
+        return push(text, "at most 15 digits before the point and nine after it");
     }
     Ok(())
 }
@@ -188,7 +185,7 @@ fn number_near(front: &str) -> &'static str {
     if front.ends_with('(') {
         "a number from 1 to 65535"
     } else {
-        "at most nine digits before the point and six behind it"
+        "at most nine digits before the point and six after it"
     }
 }
 

@@ -155,7 +155,7 @@ fn push_doubt(
         )?,
         Doubt::Other(name, kind) => writeln!(
             findings.text,
-            "one line whose {name} is no {kind} fails the rule; | __error__=\"\" behind it leaves such lines out"
+            "one line whose {name} is no {kind} fails the rule; | __error__=\"\" after it leaves such lines out"
         )?,
     }
     Ok(())

@@ -56,7 +56,7 @@ pub all_back : (old new : StreamsView) (requests : RequestsView) (t : ℕ) → L
 all_back old new requests t look [] built = tt
 all_back old new requests t look (it ∷ windows) built = (built_back old new requests t it look built.0, all_back old new requests t look windows built.1)
 
--- the keys of some windows more, of terms that stand behind the first ones
+-- the keys of some windows more, of terms that stand after the first ones
 pub keys_more : (windows more all : List RangeWindow) (terms rest : List (Bor Term)) (i n : ℕ) → rest ≡ drop i terms → n ≤ length rest → all ≡ windows ++ more → map key_of windows ≡ map (λ (one : Bor Term). term_key one.now) (take i terms) → map key_of more ≡ map (λ (one : Bor Term). term_key one.now) (take n rest)
     → map key_of all ≡ map (λ (one : Bor Term). term_key one.now) (take (i + length (take n rest)) terms)
 keys_more windows more all terms rest i n rest_is within all_is same keys =
@@ -65,7 +65,7 @@ keys_more windows more all terms rest i n rest_is within all_is same keys =
     ∙ map-append key_of windows more
     ∙ (λ j. same j ++ keys j)
     ∙ sym (map-append key (take i terms) (take n rest))
-    ∙ ap (λ behind. map key (take i terms ++ take n behind)) rest_is
+    ∙ ap (λ after. map key (take i terms ++ take n after)) rest_is
     ∙ ap (map key) (sym (take-add i n terms))
     ∙ ap (λ m. map key (take (i + m) terms)) (sym (length-take-le n rest within))
 
@@ -105,7 +105,7 @@ ranges_more old new more terms i term indices index within there is all found =
     subst (λ ts. AllZip (IsRangeAt new) ts (indices ++ index ∷ [])) (sym (take_more terms i term within ∙ ap (λ x. take i terms ++ x ∷ []) (sym there)))
     (AllZip-append (IsRangeAt new) (take i terms) indices (term ∷ []) (index ∷ []) (subst (λ ranges. AllZip (IsRangeAt ranges) (take i terms) indices) (sym is) (ranges_stay old more (take i terms) indices all)) (found, tt))
 
--- one behind all stands at the end
+-- one after all stands at the end
 pub range_last : (ranges : List (RangeCode × ℕ)) (range : RangeCode × ℕ) → slice_get (ranges ++ range ∷ []) (length ranges) ≡ Some range
 range_last [] range = refl
 range_last (first ∷ ranges) range = range_last ranges range

@@ -15,13 +15,13 @@ use Rattle.rl_windows.specs.declared.element.Element.{Element}
 use Rattle.rl_windows.specs.declared.range.RangeCode.{RangeCode}
 use Rattle.rl_slots.specs.Slots.{key_of, term_key, AreExactIn, AreSums, ContentsIn, IsPartialAt, IsSumAt, IsWindowOf, StandIn}
 use Rattle.rl_slots.specs.declared.range_window.RangeWindow.{RangeWindow}
-use Rattle.rl_slots.proofs.Setting.{at_index}
+use Rattle.rl_slots.proofs.Setting.{index_holds}
 
 -- the window at an index of a list
 pub found : (old windows : List RangeWindow) (indices : List ℕ) (i : ℕ) (d : RangeWindow) → i < length indices → AllByRecursion (λ index. index < length old) indices → map key_of windows ≡ map key_of old
     → slice_get windows (slice_index_or indices i 0) ≡ Some (slice_index_or windows (slice_index_or indices i 0) d)
 found old windows indices i d less within same =
-    slice_get-get_or windows (slice_index_or indices i 0) d (omega (arith, at_index (λ index. index < length old) indices i less within, length-map windows key_of, ap length same, length-map old key_of))
+    slice_get-get_or windows (slice_index_or indices i 0) d (omega (arith, index_holds (λ index. index < length old) indices i less within, length-map windows key_of, ap length same, length-map old key_of))
 
 -- what a window that stands for entries gives is what its range has of them
 pub shows_at : (old windows : List RangeWindow) (entries : List Entry) (t k : ℕ) (x : RangeWindow) (shown : Partial) → slice_get windows k ≡ Some x → map key_of windows ≡ map key_of old → AreExactIn windows entries

@@ -203,6 +203,6 @@ pub full-many : (gained entries : List Entry) (slots others : List SlotView) (n 
     → IfSome (slice_get others change.slot) (λ slot. IfSome (slice_get slot.windows change.window) IsFull) → most < length gained + length entries
 full-many gained entries slots others n change most same of_most less is stand full =
     let each = at_all (IsThere slots) gained slots (λ s w slot it there window. (slot, there, (it, window))) in
-    let indexed : IsThere slots change.slot change.window = at_index (λ (c : Change). IsThere slots c.slot c.window) (changes_of_all gained slots) n change (change_there gained entries slots n change others most same of_most less is) each in
-    let here = range_there others slots change.slot change.window indexed.0 indexed.2.0 (sym same) indexed.1 indexed.2.1 in
-    at_window gained entries slots n change others most same of_most less is indexed.0 here.0 indexed.2.0 here.2.0 indexed.1 indexed.2.1 here.1 here.2.1 stand full
+    let there : IsThere slots change.slot change.window = at_index (λ (c : Change). IsThere slots c.slot c.window) (changes_of_all gained slots) n change (change_there gained entries slots n change others most same of_most less is) each in
+    let here = range_there others slots change.slot change.window there.0 there.2.0 (sym same) there.1 there.2.1 in
+    at_window gained entries slots n change others most same of_most less is there.0 here.0 there.2.0 here.2.0 there.1 there.2.1 here.1 here.2.1 stand full

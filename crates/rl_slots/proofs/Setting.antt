@@ -4,7 +4,7 @@ use Rattle.std.specs.Prelude.{slice_get}
 use Rattle.std.specs.List.{AllByRecursion, AllZip}
 use Rattle.std.specs.Option.{option_copied, IfSome}
 use Rattle.std.proofs.lemmas.Bool.{ltb-false, ltb-true, ne_eqb}
-use Rattle.std.proofs.lemmas.Option.{none-some, same_Some, slice_get_past, slice_get_read, IfSome_then}
+use Rattle.std.proofs.lemmas.Option.{same_Some, slice_get_past, slice_get_read, IfSome_then}
 use Rattle.rl_query.specs.declared.query.Term.{Term}
 use Rattle.rl_windows.specs.Windows.{StandsFor}
 use Rattle.rl_windows.specs.declared.element.Element.{Element}
@@ -103,10 +103,10 @@ one_pair R (a ∷ xs) [] x y all one = absurd all
 one_pair R (a ∷ xs) (b ∷ ys) x y all one = (all.0, one_pair R xs ys x y all.1 one)
 
 -- what holds of each number of a list holds of one
-pub at_index : (P : ℕ → Type 0) (xs : List ℕ) (i : ℕ) → i < length xs → AllByRecursion P xs → P (slice_index_or xs i 0)
-at_index P [] i less all = absurd (not_below_zero i less)
+pub index_holds : (P : ℕ → Type 0) (xs : List ℕ) (i : ℕ) → i < length xs → AllByRecursion P xs → P (slice_index_or xs i 0)
+index_holds P [] i less all = absurd (not_below_zero i less)
   where
     not_below_zero : (n : ℕ) → n < 0 → ⊥
     not_below_zero n less = omega (arith, less)
-at_index P (x ∷ xs) zero less all = all.0
-at_index P (x ∷ xs) (suc i) less all = at_index P xs i (omega (arith, less)) all.1
+index_holds P (x ∷ xs) zero less all = all.0
+index_holds P (x ∷ xs) (suc i) less all = index_holds P xs i (omega (arith, less)) all.1

@@ -1,6 +1,6 @@
 //! Steps of a shard beside windows, over stores of which one call fails.
 //!
-//! An input is limits, a question, and a step a line, as `shard` has them; a line `ask` asks the question. Behind each step it
+//! An input is limits, a question, and a step a line, as `shard` has them; a line `ask` asks the question. After each step it
 //! is written what was replied and how many lines the windows show, if they answer the question. Then the steps are asked of
 //! new shards, one for each call of the store, which fails there. A step that is refused has to leave the journal and what
 //! windows show, and to be done when it is asked again. So each shard has to reply the same; and it is written how many calls

@@ -64,7 +64,7 @@ seen : {X Y : Type 0} (f : X → Y) (o : Option X) (y : Y) → option_map f o �
 seen f None y is = absurd (none-some y is)
 seen f (Some x) y is = (x, refl, same_Some (f x) y is)
 
--- the first item that passes a test, with an item more behind all
+-- the first item that passes a test, with an item more after all
 module _ {X : Type 0} (test : X → Bool) (y : X) where
   from_more : (i k : ℕ) (xs : List X) → position_from test i xs ≡ Some k → position_from test i (xs ++ y ∷ []) ≡ Some k
   from_more i k [] is = absurd (none-some k is)

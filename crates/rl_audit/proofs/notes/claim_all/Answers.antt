@@ -4,10 +4,10 @@ use Rattle.std.specs.List.{AllByRecursion}
 use Rattle.std.proofs.lemmas.List.{map_more, take_all, take_more}
 use Rattle.rl_world.specs.declared.item.Item.{Item}
 use Rattle.rl_audit.specs.Claims.{IsRight, Place}
-use Rattle.rl_audit.specs.Marked.{StandFor}
-use Rattle.rl_audit.specs.Merged.{item_of, Tells}
+use Rattle.rl_audit.specs.Flagged.{StandFor}
+use Rattle.rl_audit.specs.Merged.{item_of, Describes}
 use Rattle.rl_audit.specs.declared.receipt.Note.{Note}
-use Rattle.rl_audit.proofs.Marking.{all_more}
+use Rattle.rl_audit.proofs.Flagging.{all_more}
 use Rattle.rl_audit.proofs.notes.claim_all.Goals as goal
 
 pub loop-note-preserved : goal.loop-note-preserved
@@ -27,15 +27,15 @@ loop-note-preserved g c =
     let more : take (i + 1) notes ≡ take i notes ++ note ∷ [] = take_more notes i note less ∙ ap (λ (note : Note). take i notes ++ note ∷ []) (sym c.note-item.is) in
     record {
       sizes = c.claim.ensures.sizes ∙ met.sizes;
-      claimed = λ before stand. subst (λ (places : List Place). StandFor after.marks.items after.nexts before places) (sym one)
+      claimed = λ before stand. subst (λ (places : List Place). StandFor after.flags.items after.nexts before places) (sym one)
           (c.if-not-claim.ensures.claimed refl before named (met.claimed before stand));
-      right = subst (AllByRecursion (IsRight histories (item_of histories) Tells)) (sym more)
-          (all_more (IsRight histories (item_of histories) Tells) (take i notes) note met.right (c.in-Some.ensures.right refl));
+      right = subst (AllByRecursion (IsRight histories (item_of histories) Describes)) (sym more)
+          (all_more (IsRight histories (item_of histories) Describes) (take i notes) note met.right (c.in-Some.ensures.right refl));
     }
 
 pub returns-clause-claimed : goal.returns-clause-claimed
 returns-clause-claimed g c before stand =
     let histories : List (List Item) = map (λ book. book.history.items) c.args.books.now in
     let notes = c.args.notes.now in
-    let marks = c.loop-note.marks in
-    subst (λ (notes : List Note). StandFor marks.marks.items marks.nexts before (map (item_of histories) notes)) (take_all c.loop-note.note-index notes (omega arith)) (c.loop-note.invariant.claimed before stand)
+    let flags = c.loop-note.flags in
+    subst (λ (notes : List Note). StandFor flags.flags.items flags.nexts before (map (item_of histories) notes)) (take_all c.loop-note.note-index notes (omega arith)) (c.loop-note.invariant.claimed before stand)

@@ -17,16 +17,16 @@ loop-caller-preserved g c =
     let is : claims ≡ receipts (get_or callers i c.caller-item.result) = c.receipts.ensures ∙ ap receipts c.caller-item.is in
     let whole : map receipts (take (i + 1) callers) ≡ map receipts (take i callers) ++ claims ∷ [] = map_more receipts callers i c.caller-item.result less ∙ ap (λ (claims : List Receipt). map receipts (take i callers) ++ claims ∷ []) (sym is) in
     let claim = c.in_ok-claim_all.ensures in
-    let before = c.loop-caller.marks in
-    let between = c.claim_all.new.marks in
+    let before = c.loop-caller.flags in
+    let between = c.claim_all.new.flags in
     let after = c.next_caller.new.self in
-    subst (AreMet digests place_of IsOf after.marks.items after.nexts) (sym whole)
-    (one_met digests place_of IsOf before.marks.items between.marks.items after.marks.items before.nexts between.nexts after.nexts (map receipts (take i callers)) claims c.loop-caller.invariant claim.claimed c.next_caller.ensures.begun (c.next_caller.ensures.sizes ∙ claim.sizes) claim.right)
+    subst (AreMet digests place_of IsOf after.flags.items after.nexts) (sym whole)
+    (one_met digests place_of IsOf before.flags.items between.flags.items after.flags.items before.nexts between.nexts after.nexts (map receipts (take i callers)) claims c.loop-caller.invariant claim.claimed c.next_caller.ensures.begun (c.next_caller.ensures.sizes ∙ claim.sizes) claim.right)
 
 pub returns : goal.returns
 returns g c =
     let callers = c.args.callers.now in
-    let marks = c.loop-caller.marks in
+    let flags = c.loop-caller.flags in
     let all : take c.loop-caller.caller-index callers ≡ callers = take_all c.loop-caller.caller-index callers (omega arith) in
-    let met = subst (λ callers. AreMet c.args.digests.now place_of IsOf marks.marks.items marks.nexts (map g.C.Carrier.receipts callers)) all c.loop-caller.invariant in
-    all_met c.args.digests.now place_of IsOf marks.marks.items marks.nexts (map g.C.Carrier.receipts callers) met c.in-None.ensures.all
+    let met = subst (λ callers. AreMet c.args.digests.now place_of IsOf flags.flags.items flags.nexts (map g.C.Carrier.receipts callers)) all c.loop-caller.invariant in
+    all_met c.args.digests.now place_of IsOf flags.flags.items flags.nexts (map g.C.Carrier.receipts callers) met c.in-None.ensures.all

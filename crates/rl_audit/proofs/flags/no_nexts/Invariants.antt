@@ -1,6 +1,6 @@
 -- The columns so far, each from its first index on.
 use Rattle.std.proofs.Common.{◌≡◌, ◌≤◌, replicate, vec_capacity, vec_len}
-use Rattle.rl_audit.proofs.marks.no_nexts.Given as goal
+use Rattle.rl_audit.proofs.flags.no_nexts.Given as goal
 
 abbrev pub invariant-loop : goal.invariant-loop
 invariant-loop l = record {

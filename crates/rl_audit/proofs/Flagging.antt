@@ -1,4 +1,4 @@
--- What a claim makes of marks.
+-- What a claim makes of flags.
 use Rattle.std.proofs.Common.{◌≡◌, ◌≢◌, ℕ, zero, suc, ◌+◌, ◌<◌, ◌≤◌, Bool, true, false, cond, not, ◌&&◌, List, [], ◌∷◌, ◌++◌, eqb, nat_lt, length, map, replicate, get_or, slice_index_or, slice_set, Option, Some, None, refl, sym, ap, subst, ◌∙◌, arith, append_assoc}
 use Rattle.std.specs.Prelude.{slice_get, IfSome}
 use Rattle.std.specs.List.{count_by, position, position_or_len, AllByRecursion}
@@ -8,7 +8,7 @@ use Rattle.std.proofs.lemmas.List.Quantifiers.{position-Some}
 use Rattle.std.proofs.lemmas.List.Sums.{fails_before_first, sum_by_push}
 use Rattle.std.proofs.lemmas.Option.{get_or_from_slice_get, none-some, slice_get-get_or, slice_get_within, IfSome_then}
 use Rattle.rl_audit.specs.Claims.{is_place, item_at, AreRising, Place}
-use Rattle.rl_audit.specs.Marked.{StandFor}
+use Rattle.rl_audit.specs.Flagged.{StandFor}
 
 -- LISTS
 
@@ -33,65 +33,65 @@ pub all_more : {X : Type 0} (P : X → Type 0) (xs : List X) (y : X) → AllByRe
 all_more P [] y all own = (own, tt)
 all_more P (x ∷ xs) y all own = (all.0, all_more P xs y all.1 own)
 
--- one place more, behind all others of its column
+-- one place more, after all others of its column
 rising_more : (places : List Place) (last : Place) → AreRising places → AllByRecursion (λ place. last.0 ≡ place.0 → place.1 < last.1) places → AreRising (places ++ last ∷ [])
-rising_more [] last rising behind = (tt, tt)
-rising_more (place ∷ places) last rising behind =
-    (all_more (λ later. later.0 ≡ place.0 → place.1 < later.1) places last rising.0 behind.0, rising_more places last rising.1 behind.1)
+rising_more [] last rising after = (tt, tt)
+rising_more (place ∷ places) last rising after =
+    (all_more (λ later. later.0 ≡ place.0 → place.1 < later.1) places last rising.0 after.0, rising_more places last rising.1 after.1)
 
 -- A CLAIM
 
-module _ (marks : List (List Bool)) (own : List Bool) (column place : ℕ) (there : column < length marks) (own_is : own ≡ get_or marks column []) (free : item_at marks (column, place) ≡ Some false) where
+module _ (flags : List (List Bool)) (own : List Bool) (column place : ℕ) (there : column < length flags) (own_is : own ≡ get_or flags column []) (free : item_at flags (column, place) ≡ Some false) where
   abbrev claimed : Place
   claimed = (column, place)
 
   abbrev after : List (List Bool)
-  after = slice_set marks column (slice_set own place true)
+  after = slice_set flags column (slice_set own place true)
 
   item_in : slice_get own place ≡ Some false
   item_in = ap (λ (xs : List Bool). slice_get xs place) own_is ∙ free
 
   item_own : item_at after claimed ≡ Some true
-  item_own = ap (λ (xs : List Bool). slice_get xs place) (get_or-set_same marks column (slice_set own place true) [] there) ∙ set_own own place false true item_in
+  item_own = ap (λ (xs : List Bool). slice_get xs place) (get_or-set_same flags column (slice_set own place true) [] there) ∙ set_own own place false true item_in
 
-  item_column : (index : ℕ) → index ≢ place → item_at after (column, index) ≡ item_at marks (column, index)
+  item_column : (index : ℕ) → index ≢ place → item_at after (column, index) ≡ item_at flags (column, index)
   item_column index apart =
-      ap (λ (xs : List Bool). slice_get xs index) (get_or-set_same marks column (slice_set own place true) [] there)
+      ap (λ (xs : List Bool). slice_get xs index) (get_or-set_same flags column (slice_set own place true) [] there)
       ∙ set_other own place index true apart
       ∙ ap (λ (xs : List Bool). slice_get xs index) own_is
 
-  item_other : (other : Place) → other.0 ≢ column → item_at after other ≡ item_at marks other
-  item_other other apart = ap (λ (xs : List Bool). slice_get xs other.1) (get_or-set_other marks column other.0 (slice_set own place true) [] apart)
+  item_other : (other : Place) → other.0 ≢ column → item_at after other ≡ item_at flags other
+  item_other other apart = ap (λ (xs : List Bool). slice_get xs other.1) (get_or-set_other flags column other.0 (slice_set own place true) [] apart)
 
-  item_apart : (other : Place) → is_place other claimed ≡ false → item_at after other ≡ item_at marks other
+  item_apart : (other : Place) → is_place other claimed ≡ false → item_at after other ≡ item_at flags other
   item_apart other apart = by (eqb other.0 column) refl
     where
-      by : (b : Bool) → eqb other.0 column ≡ b → item_at after other ≡ item_at marks other
+      by : (b : Bool) → eqb other.0 column ≡ b → item_at after other ≡ item_at flags other
       by false is = item_other other (eqb-false other.0 column is)
       by true is =
           let same : other.0 ≡ column = eqb-true other.0 column is in
           let differs : eqb other.1 place ≡ false = sym (ap (λ b. b && eqb other.1 place) is) ∙ apart in
-          subst (λ c. item_at after (c, other.1) ≡ item_at marks (c, other.1)) (sym same) (item_column other.1 (eqb-false other.1 place differs))
+          subst (λ c. item_at after (c, other.1) ≡ item_at flags (c, other.1)) (sym same) (item_column other.1 (eqb-false other.1 place differs))
 
-  marked_more : (before mine : List Place) → ((at : Place) → IfSome (item_at marks at) (λ mark. count_by (is_place at) (before ++ mine) ≡ cond mark 1 0))
-      → (at : Place) → IfSome (item_at after at) (λ mark. count_by (is_place at) (before ++ (mine ++ claimed ∷ [])) ≡ cond mark 1 0)
-  marked_more before mine old at = by (is_place at claimed) refl
+  flagged_more : (before mine : List Place) → ((at : Place) → IfSome (item_at flags at) (λ flag. count_by (is_place at) (before ++ mine) ≡ cond flag 1 0))
+      → (at : Place) → IfSome (item_at after at) (λ flag. count_by (is_place at) (before ++ (mine ++ claimed ∷ [])) ≡ cond flag 1 0)
+  flagged_more before mine old at = by (is_place at claimed) refl
     where
       counts : count_by (is_place at) (before ++ (mine ++ claimed ∷ [])) ≡ count_by (is_place at) (before ++ mine) + cond (is_place at claimed) 1 0
       counts = ap (count_by (is_place at)) (sym (append_assoc before mine (claimed ∷ []))) ∙ sum_by_push (λ x. cond (is_place at x) 1 0) (before ++ mine) claimed
 
-      by : (b : Bool) → is_place at claimed ≡ b → IfSome (item_at after at) (λ mark. count_by (is_place at) (before ++ (mine ++ claimed ∷ [])) ≡ cond mark 1 0)
+      by : (b : Bool) → is_place at claimed ≡ b → IfSome (item_at after at) (λ flag. count_by (is_place at) (before ++ (mine ++ claimed ∷ [])) ≡ cond flag 1 0)
       by true is =
           let parts = and_parts (eqb at.0 column) (eqb at.1 place) is in
           let column_is : at.0 ≡ column = eqb-true at.0 column parts.0 in
           let place_is : at.1 ≡ place = eqb-true at.1 place parts.1 in
           let same : at ≡ claimed = λ k. (column_is k, place_is k) in
-          let none : count_by (is_place at) (before ++ mine) ≡ 0 = subst (λ item. IfSome item (λ mark. count_by (is_place at) (before ++ mine) ≡ cond mark 1 0)) (ap (item_at marks) same ∙ free) (old at) in
-          subst (λ item. IfSome item (λ mark. count_by (is_place at) (before ++ (mine ++ claimed ∷ [])) ≡ cond mark 1 0)) (sym (ap (item_at after) same ∙ item_own))
+          let none : count_by (is_place at) (before ++ mine) ≡ 0 = subst (λ item. IfSome item (λ flag. count_by (is_place at) (before ++ mine) ≡ cond flag 1 0)) (ap (item_at flags) same ∙ free) (old at) in
+          subst (λ item. IfSome item (λ flag. count_by (is_place at) (before ++ (mine ++ claimed ∷ [])) ≡ cond flag 1 0)) (sym (ap (item_at after) same ∙ item_own))
           (counts ∙ (λ k. none k + cond (is k) 1 0))
       by false is =
-          subst (λ item. IfSome item (λ mark. count_by (is_place at) (before ++ (mine ++ claimed ∷ [])) ≡ cond mark 1 0)) (sym (item_apart at is))
-          (IfSome_then (item_at marks at) (old at) (λ mark e. counts ∙ (λ k. e k + cond (is k) 1 0) ∙ omega arith))
+          subst (λ item. IfSome item (λ flag. count_by (is_place at) (before ++ (mine ++ claimed ∷ [])) ≡ cond flag 1 0)) (sym (item_apart at is))
+          (IfSome_then (item_at flags at) (old at) (λ flag e. counts ∙ (λ k. e k + cond (is k) 1 0) ∙ omega arith))
 
   module _ (nexts : List ℕ) (within : column < length nexts) (next : slice_index_or nexts column 0 ≤ place) where
     abbrev nexts_after : List ℕ
@@ -110,19 +110,19 @@ module _ (marks : List (List Bool)) (own : List Bool) (column place : ℕ) (ther
             let low : at.1 < slice_index_or nexts column 0 = subst (λ c. at.1 < slice_index_or nexts c 0) same below in
             subst (λ c. at.1 < slice_index_or nexts_after c 0) (sym same) (omega (arith, next_own, low, next))
 
-    behind : (at : Place) → at.1 < slice_index_or nexts at.0 0 → claimed.0 ≡ at.0 → at.1 < place
-    behind at below same =
+    above : (at : Place) → at.1 < slice_index_or nexts at.0 0 → claimed.0 ≡ at.0 → at.1 < place
+    above at below same =
         let low : at.1 < slice_index_or nexts column 0 = subst (λ c. at.1 < slice_index_or nexts c 0) (sym same) below in
         omega (arith, low, next)
 
-    pub stand_claimed : (before mine : List Place) → StandFor marks nexts before mine → StandFor after nexts_after before (mine ++ claimed ∷ [])
+    pub stand_claimed : (before mine : List Place) → StandFor flags nexts before mine → StandFor after nexts_after before (mine ++ claimed ∷ [])
     stand_claimed before mine stand = record {
-      marked = marked_more before mine stand.marked;
+      flagged = flagged_more before mine stand.flagged;
       next = all_more (λ at. at.1 < slice_index_or nexts_after at.0 0) mine claimed
           (all_then (λ at. at.1 < slice_index_or nexts at.0 0) (λ at. at.1 < slice_index_or nexts_after at.0 0) mine next_more stand.next)
           (omega (arith, next_own));
       rising = rising_more mine claimed stand.rising
-          (all_then (λ at. at.1 < slice_index_or nexts at.0 0) (λ at. claimed.0 ≡ at.0 → at.1 < place) mine behind stand.next);
+          (all_then (λ at. at.1 < slice_index_or nexts at.0 0) (λ at. claimed.0 ≡ at.0 → at.1 < place) mine above stand.next);
     }
 
 -- THE END
@@ -138,7 +138,7 @@ first_free xs i is =
     opposite false is = refl
 
 -- all are claimed
-pub none_free : (xs : List Bool) → None ≡ position not xs → (i : ℕ) → IfSome (slice_get xs i) (λ mark. mark ≡ true)
+pub none_free : (xs : List Bool) → None ≡ position not xs → (i : ℕ) → IfSome (slice_get xs i) (λ flag. flag ≡ true)
 none_free xs is i = by (slice_get xs i) refl
   where
     past : (b : Bool) → nat_lt (position_or_len not xs) (length xs) ≡ b → None ≡ cond b (Some (position_or_len not xs)) None → length xs ≤ position_or_len not xs
@@ -149,23 +149,23 @@ none_free xs is i = by (slice_get xs i) refl
     opposite true is = refl
     opposite false is = sym is
 
-    by : (found : Option Bool) → slice_get xs i ≡ found → IfSome found (λ mark. mark ≡ true)
+    by : (found : Option Bool) → slice_get xs i ≡ found → IfSome found (λ flag. flag ≡ true)
     by None there = tt
-    by (Some mark) there =
-        let low : i < length xs = slice_get_within xs i mark there in
+    by (Some flag) there =
+        let low : i < length xs = slice_get_within xs i flag there in
         let all : length xs ≤ position_or_len not xs = past (nat_lt (position_or_len not xs) (length xs)) refl is in
-        sym (get_or_from_slice_get xs i mark true there) ∙ opposite (get_or xs i true) (fails_before_first not xs i true (omega (arith, low, all)))
+        sym (get_or_from_slice_get xs i flag true there) ∙ opposite (get_or xs i true) (fails_before_first not xs i true (omega (arith, low, all)))
 
 -- one column more is claimed
-pub claimed_more : (marks : List (List Bool)) (n : ℕ) (own : List Bool) → own ≡ get_or marks n [] → ((i : ℕ) → IfSome (slice_get own i) (λ mark. mark ≡ true)) → ((place : Place) → place.0 < n → IfSome (item_at marks place) (λ mark. mark ≡ true))
-    → (place : Place) → place.0 < n + 1 → IfSome (item_at marks place) (λ mark. mark ≡ true)
-claimed_more marks n own own_is whole all place below = by (eqb place.0 n) refl
+pub claimed_more : (flags : List (List Bool)) (n : ℕ) (own : List Bool) → own ≡ get_or flags n [] → ((i : ℕ) → IfSome (slice_get own i) (λ flag. flag ≡ true)) → ((place : Place) → place.0 < n → IfSome (item_at flags place) (λ flag. flag ≡ true))
+    → (place : Place) → place.0 < n + 1 → IfSome (item_at flags place) (λ flag. flag ≡ true)
+claimed_more flags n own own_is whole all place below = by (eqb place.0 n) refl
   where
-    by : (b : Bool) → eqb place.0 n ≡ b → IfSome (item_at marks place) (λ mark. mark ≡ true)
+    by : (b : Bool) → eqb place.0 n ≡ b → IfSome (item_at flags place) (λ flag. flag ≡ true)
     by false is = let apart = eqb-false place.0 n is in all place (omega (arith, apart, below))
     by true is =
-        subst (λ c. IfSome (item_at marks (c, place.1)) (λ mark. mark ≡ true)) (sym (eqb-true place.0 n is))
-        (subst (λ xs. IfSome (slice_get xs place.1) (λ mark. mark ≡ true)) own_is (whole place.1))
+        subst (λ c. IfSome (item_at flags (c, place.1)) (λ flag. flag ≡ true)) (sym (eqb-true place.0 n is))
+        (subst (λ xs. IfSome (slice_get xs place.1) (λ flag. flag ≡ true)) own_is (whole place.1))
 
 -- THE BEGINNING
 
@@ -179,22 +179,22 @@ sizes_unclaimed (size ∷ sizes) = λ k. length-replicate size false k ∷ sizes
 
 pub stand_fresh : (sizes nexts : List ℕ) → StandFor (unclaimed_of sizes) nexts [] []
 stand_fresh sizes nexts = record {
-  marked = λ place. in_columns sizes place.0 place.1;
+  flagged = λ place. in_columns sizes place.0 place.1;
   next = tt;
   rising = tt;
 }
   where
-    in_column : (size place : ℕ) → IfSome (slice_get (replicate size false) place) (λ mark. ◌≡◌ {A = ℕ} 0 (cond mark 1 0))
+    in_column : (size place : ℕ) → IfSome (slice_get (replicate size false) place) (λ flag. ◌≡◌ {A = ℕ} 0 (cond flag 1 0))
     in_column size place = by (slice_get (replicate size false) place) refl
       where
-        by : (found : Option Bool) → slice_get (replicate size false) place ≡ found → IfSome found (λ mark. ◌≡◌ {A = ℕ} 0 (cond mark 1 0))
+        by : (found : Option Bool) → slice_get (replicate size false) place ≡ found → IfSome found (λ flag. ◌≡◌ {A = ℕ} 0 (cond flag 1 0))
         by None there = tt
-        by (Some mark) there =
-            let less : place < size = omega (arith, slice_get_within (replicate size false) place mark there, length-replicate size false) in
-            let is : mark ≡ false = sym (get_or_from_slice_get (replicate size false) place mark false there) ∙ get_or-replicate size place false false less in
+        by (Some flag) there =
+            let less : place < size = omega (arith, slice_get_within (replicate size false) place flag there, length-replicate size false) in
+            let is : flag ≡ false = sym (get_or_from_slice_get (replicate size false) place flag false there) ∙ get_or-replicate size place false false less in
             ap (λ b. cond b 1 0) (sym is)
 
-    in_columns : (sizes : List ℕ) (column place : ℕ) → IfSome (slice_get (slice_index_or (unclaimed_of sizes) column []) place) (λ mark. ◌≡◌ {A = ℕ} 0 (cond mark 1 0))
+    in_columns : (sizes : List ℕ) (column place : ℕ) → IfSome (slice_get (slice_index_or (unclaimed_of sizes) column []) place) (λ flag. ◌≡◌ {A = ℕ} 0 (cond flag 1 0))
     in_columns [] column place = tt
     in_columns (size ∷ sizes) zero place = in_column size place
     in_columns (size ∷ sizes) (suc column) place = in_columns sizes column place
