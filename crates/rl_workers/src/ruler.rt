@@ -289,8 +289,8 @@ impl<D: Store, S: Sink, L: Crew, P: Crew> Ruler<D, S, L, P> {
         }
     }
 
-    // Asks one shard after the other for a step. The reply of each.
-    fn ask_all<R: Wait>(
+    /// Asks one shard after the other for a step. The reply of each.
+    pub fn ask_all<R: Wait>(
         &self,
         rt: &R,
         pass: &mut Pass<P>,

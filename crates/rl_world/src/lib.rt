@@ -32,5 +32,5 @@ pub use rl_rules as rules;
 pub use rl_shard as shard;
 pub use rl_sinks as sinks;
 pub use step::{Committed, Reply, Step};
-pub use turns::is_same_name;
+pub use turns::{is_same_name, refusal_of_shard};
 pub use world::World;

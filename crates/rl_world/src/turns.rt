@@ -199,8 +199,8 @@ pub fn is_same_name(one: &Group, other: &Group) -> bool
     one.name.as_str() == other.name.as_str()
 }
 
-// A fault of a shard, as a world reports it.
-fn refusal_of_shard(fault: ShardFault) -> Refusal
+/// A fault of a shard, as a world reports it.
+pub fn refusal_of_shard(fault: ShardFault) -> Refusal
     ensures { result ≡ refusal_of_shard fault }
 {
     match fault {
