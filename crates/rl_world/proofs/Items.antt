@@ -1,5 +1,8 @@
 -- What one item more makes of the group, its alerts and its evaluations.
-use Rattle.std.proofs.Common.{◌≡◌, ℕ, zero, suc, ◌+◌, ◌<◌, ◌≤◌, List, [], ◌∷◌, ◌++◌, length, zip, drop, get_or, refl, sym, ap, ◌∙◌, arith, append_assoc, append-nil, add-one}
+use Rattle.std.proofs.Common.{◌≡◌, ℕ, zero, suc, ◌+◌, ◌-◌, ◌<◌, ◌≤◌, List, [], ◌∷◌, ◌++◌, length, zip, take, drop, get_or, Some, slice_get, slice_set, refl, sym, ap, subst, ◌∙◌, arith, append_assoc, append-nil, add-one, length-append}
+use Rattle.std.proofs.Math.Seq.{get_or-append_seam}
+use Rattle.std.proofs.lemmas.List.{set-get_or, take_all, take_more}
+use Rattle.std.proofs.lemmas.Option.{get_or_from_slice_get, slice_get-get_or, slice_get_within}
 use Rattle.rl_rules.specs.Editing.{handed_on, taken}
 use Rattle.rl_rules.specs.declared.alert.Alert.{Alert}
 use Rattle.rl_rules.specs.declared.rule.Group.{Group}
@@ -51,6 +54,33 @@ pub few_evaluations : (items : List Item) → length (evaluations_in items) ≤ 
 few_evaluations [] = omega arith
 few_evaluations (kinds.Edited group ∷ items) = let rest = few_evaluations items in omega arith
 few_evaluations (kinds.Evaluated evaluation ∷ items) = let rest = few_evaluations items in omega arith
+
+-- one after all is the last
+pub last_is : {X : Type 0} (xs : List X) (x : X) → slice_get (xs ++ x ∷ []) (length (xs ++ x ∷ []) - 1) ≡ Some x
+last_is xs x =
+    let all = xs ++ x ∷ [] in
+    let long = length-append xs (x ∷ []) in
+    let index : length all - 1 ≡ length xs = omega (arith, long) in
+    ap (slice_get all) index ∙ slice_get-get_or all (length xs) x (omega (arith, long)) ∙ ap Some (get_or-append_seam xs x [] x)
+
+-- the last stands after all the others
+ends_in : {X : Type 0} (xs : List X) (x : X) → slice_get xs (length xs - 1) ≡ Some x → xs ≡ take (length xs - 1) xs ++ x ∷ []
+ends_in xs x last =
+    let within = slice_get_within xs (length xs - 1) x last in
+    sym (take_all (length xs - 1 + 1) xs (omega (arith, within))) ∙ take_more xs (length xs - 1) x within ∙ ap (λ y. take (length xs - 1) xs ++ y ∷ []) (get_or_from_slice_get xs (length xs - 1) x x last)
+
+-- in place of the last the same
+pub set_last : {X : Type 0} (xs : List X) (n : ℕ) (x : X) → n ≡ length xs → slice_get xs (length xs - 1) ≡ Some x → slice_set xs (n - 1) x ≡ xs
+set_last xs n x long last =
+    let there = ap (λ count. slice_get xs (count - 1)) long ∙ last in
+    ap (slice_set xs (n - 1)) (sym (get_or_from_slice_get xs (n - 1) x x there)) ∙ set-get_or xs (n - 1) x
+
+-- an evaluation that is the last item is the last evaluation
+pub last_evaluation : (evaluation : Evaluation) (items : List Item) → slice_get items (length items - 1) ≡ Some (kinds.Evaluated evaluation) → slice_get (evaluations_in items) (length (evaluations_in items) - 1) ≡ Some evaluation
+last_evaluation evaluation items last =
+    let before = take (length items - 1) items in
+    let split : evaluations_in items ≡ evaluations_in before ++ evaluation ∷ [] = ap evaluations_in (ends_in items (kinds.Evaluated evaluation) last) ∙ evaluations-evaluated evaluation before in
+    subst (λ (evaluations : List Evaluation). slice_get evaluations (length evaluations - 1) ≡ Some evaluation) (sym split) (last_is (evaluations_in before) evaluation)
 
 -- two lists side by side from an index on
 zip-drop : {X Y : Type 0} (xs : List X) (ys : List Y) (i : ℕ) (x : X) (y : Y) → i < length xs → i < length ys → zip (drop i xs) (drop i ys) ≡ (get_or xs i x, get_or ys i y) ∷ zip (drop (suc i) xs) (drop (suc i) ys)

@@ -1,5 +1,5 @@
 //! A book: one rule group, its history, and its sinks.
-ghost use Rattle.std.specs.Prelude.{◌≡◌, ◌≤◌, ◌<◌, ◌^◌, List, map, length, not, replicate, slice_get, slice_set, option_map, option_and_then, IfOk, IfErr, OnOk, OnErr, IfSome, None, Some, is_some, false};
+ghost use Rattle.std.specs.Prelude.{◌≡◌, ◌≤◌, ◌<◌, ◌-◌, ◌^◌, List, map, length, not, replicate, slice_get, slice_set, option_map, option_and_then, IfOk, IfErr, OnOk, OnErr, IfSome, None, Some, is_some, false};
 ghost use Rattle.rl_sinks.specs.SinkState.{SinkState, closed};
 ghost use Rattle.rl_sinks.specs.Texts.{tail_text};
 ghost use Rattle.rl_world.specs.BookCalls.{Refuses};
@@ -70,6 +70,7 @@ impl<S: Sink> Model for Book<S> {
 impl<S: Sink> Book<S> {
     ghost use Rattle.rl_world.specs.BookCalls.{new_book, with_history, IsFresh, Answers, moment_of};
     ghost use Rattle.rl_labels.specs.declared.entry.Entry.{Entry};
+    ghost use Rattle.rl_world.specs.declared.item.Item.TheVariants as kinds;
     ghost use Rattle.rl_world.specs.declared.opened.OpenEvaluation.{OpenEvaluation};
     ghost use Rattle.rl_world.specs.WorldState.{kept_open};
     ghost use Rattle.rl_world.specs.Evaluating.{group_terms, evaluation_of};
@@ -256,6 +257,19 @@ impl<S: Sink> Book<S> {
             evaluation: copy,
             behind: PlainList::from_vec(behind),
         })
+    }
+
+    /// Puts a block in place of that of the last evaluation, to which it is equal, so that both are held once. Whatever it answers,
+    /// the book is seen as before.
+    pub fn share_last(&mut self, evaluation: &Shared<Evaluation>) -> Result<(), AllocError>
+        requires last { slice_get self.old.history.items (length self.old.history.items - 1) ≡ Some (kinds.Evaluated evaluation.now) }
+        ensures { self.new ≡ self.old }
+    {
+        let item = Item::Evaluated(evaluation.try_copy()?);
+        let own = evaluation.try_copy()?;
+        replace_last(&mut self.items, item);
+        replace_last(&mut self.evaluations, own);
+        Ok(())
     }
 
     /// Closes the open evaluation, of which nothing is left.
@@ -511,6 +525,16 @@ fn close(opened: &mut Option<OpenPartials>)
     ensures { opened.new ≡ None }
 {
     *opened = None;
+}
+
+// Puts a value in place of the last, to which it is equal.
+fn replace_last<T: Drop>(values: &mut Vec<T>, value: T)
+    requires { slice_get values.old.items (length values.old.items - 1) ≡ Some value }
+    ensures { values.new.items ≡ values.old.items }
+{
+    if let Some(last) = values.last_mut() {
+        *last = value;
+    }
 }
 
 // For each shard no answer, as none was asked.
