@@ -75,7 +75,7 @@ fn drive<D: Store, S: Sink>(
 {
     match item {
         Item::Edited(group) => edit_again(driven, group),
-        Item::Evaluated(evaluation) => evaluate_again(driven, shards, evaluation.get()),
+        Item::Evaluated(evaluation) => evaluate_again(driven, shards, evaluation),
     }
 }
 
@@ -92,11 +92,11 @@ fn edit_again<S: Sink>(driven: &mut Book<S>, to: &Shared<Group>) -> Result<(), A
     }
 }
 
-// Drives a book by an evaluation, on the partials of the records at its places.
+// Drives a book by an evaluation, on the partials of the records at its places. The two hold it once.
 fn evaluate_again<D: Store, S: Sink>(
     driven: &mut Book<S>,
     shards: &mut [Shard<D>],
-    evaluation: &Evaluation,
+    evaluation: &Shared<Evaluation>,
 ) -> Result<(), AuditFault>
     requires shards { driven.old.shards ≡ length shards.old }
     requires closed { driven.old.history.opened ≡ None }
@@ -106,14 +106,16 @@ fn evaluate_again<D: Store, S: Sink>(
     ensures later { OnOk result (IsLater driven.old.history evaluation.now) }
     ensures same { shards.new ≡ shards.old }
 {
-    let place = place_of(Some(evaluation));
-    if !is_later(driven, evaluation) {
+    let given = evaluation.get();
+    let place = place_of(Some(given));
+    if !is_later(driven, given) {
         return Err(AuditFault::Mismatch { shard: 0, place });
     }
-    gather_again(driven, shards, evaluation)?;
+    gather_again(driven, shards, given)?;
     match driven.commit() {
         Ok(made) => {
-            if made.evaluation.get().is_same(evaluation) {
+            if made.evaluation.get().is_same(given) {
+                driven.share_last(evaluation)?;
                 Ok(())
             } else {
                 Err(AuditFault::Mismatch { shard: 0, place })
