@@ -1,5 +1,5 @@
 //! What several tests are given.
-ghost use Rattle.std.specs.Prelude.{◌≡◌, ◌∷◌, [], IfErr, IfSome, length, map};
+ghost use Rattle.std.specs.Prelude.{◌≡◌, ◌∷◌, [], false, IfErr, IfSome, length, map};
 ghost use Rattle.std.specs.List.{AllByRecursion};
 ghost use Rattle.rl_world.specs.BookCalls.{IsFresh};
 
@@ -12,7 +12,7 @@ use rl_query_text::parse;
 use rl_records::{SieveText, Terms};
 use rl_rules::{Group, read_rules};
 use rl_selector_text::parse_delete;
-use rl_session::{Engine, Printer, RunError, Session, Status, WorldEngine, read_push};
+use rl_session::{Closes, Printer, RunError, Session, Status, WorldEngine, read_push};
 use rl_shard::ShardStep;
 use rl_sinks::{Recorder, Sink};
 use rl_world::{Committed, Reply, Step, World};
@@ -232,7 +232,9 @@ fn engine<S: Sink>(alloc: Global, sinks: Vec<Vec<S>>) -> Option<WorldEngine<MemS
 }
 
 // Runs commands over any engine.
-fn run<E: Engine>(alloc: Global, engine: E, text: &str, out: &mut Planned) -> End {
+fn run<E: Closes>(alloc: Global, engine: E, text: &str, out: &mut Planned) -> End
+    requires { E.calls.blocks ≡ false }
+{
     Session::new(alloc, engine).run_commands(text, &mut Printer::new(out))
 }
 

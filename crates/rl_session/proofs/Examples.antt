@@ -1,7 +1,7 @@
 -- Definitions, computed where no running session shows them.
 use Rattle.std.specs.Prelude.{codes}
 use Rattle.std.specs.Fmt.{digits}
-use Rattle.std.proofs.Common.{◌≡◌, ℕ, true, false, List, [], ◌∷◌, Some, Ok, Err, inl, refl, sym, subst, arith}
+use Rattle.std.proofs.Common.{◌≡◌, ℕ, true, false, List, [], ◌∷◌, None, Some, Ok, Err, inl, refl, sym, subst, arith}
 use Rattle.rl_world.specs.declared.fault.BookFault.TheVariants as books
 use Rattle.rl_world.specs.declared.fault.Refusal.TheVariants as refusals
 use Rattle.rl_session.specs.Asking.{IsForPush, IsForEvaluation, EvaluatesDue}
@@ -13,8 +13,8 @@ use Rattle.rl_session.specs.Printed.{pushed_text, asked_text}
 use Rattle.rl_session.specs.PushBody.{entries_of}
 use Rattle.rl_session.specs.PushForms.{EntryForm}
 use Rattle.rl_session.specs.Reading.{Reads, ReadsAll}
-use Rattle.rl_session.specs.Session.{IsExecuted, AreLinesExecuted}
-use Rattle.rl_session.specs.declared.output.Answer.TheVariants.{Refused, Ended}
+use Rattle.rl_session.specs.Session.{IsBlockBegun, IsExecuted, AreLinesExecuted}
+use Rattle.rl_session.specs.declared.output.Answer.TheVariants.{Refused, Block, Ended}
 use Rattle.rl_session.specs.declared.output.CommandResult.TheVariants as command_results
 use Rattle.rl_session.specs.declared.front.fault.FrontFault.TheVariants as fronts
 
@@ -57,5 +57,8 @@ module _ {E : Type 0} (calls : Calls E) where
   tick_that_goes_on old mid new first full second wanted =
       (true, first, (Err refusals.JournalFull, mid, Err refusals.Memory ∷ [], (full, tt), refl, (true, second, (Err refusals.Memory, new, [], (wanted, tt), refl, (refl, refl)))))
 
-  nothing_executed_after_an_end : (engine : E) → AreLinesExecuted calls engine (codes "end" ∷ codes "nonsense" ∷ []) [] false engine
-  nothing_executed_after_an_end engine = ([], Ended, engine, (refl, refl, refl), (refl, refl, refl))
+  nothing_executed_after_an_end : (engine : E) → AreLinesExecuted calls engine (codes "end" ∷ codes "nonsense" ∷ []) [] false None engine
+  nothing_executed_after_an_end engine = ([], Ended, engine, (refl, refl, refl), (refl, refl, refl, refl))
+
+  lines_left_where_a_block_begins : (engine : E) → calls.blocks ≡ true → AreLinesExecuted calls engine (codes "par" ∷ codes "cut" ∷ codes "end" ∷ []) [] false (Some (codes "cut" ∷ codes "end" ∷ [])) engine
+  lines_left_where_a_block_begins engine takes = ([], Block, engine, subst (λ takes. IsBlockBegun takes engine [] Block engine) (sym takes) (refl, refl, refl), (refl, refl, refl, refl))

@@ -9,6 +9,8 @@ pub mod Lines
 mod Printing
 pub mod Following
 pub mod LinesSoFar
+mod WithoutBlocks
+mod Endings
 mod Texts
 pub mod Printers
 mod Examples

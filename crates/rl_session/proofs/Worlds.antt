@@ -1,26 +1,13 @@
 -- What the calls of an engine over a world make of the world.
 use Rattle.std.proofs.Common.{◌≡◌, ℕ, zero, suc, ◌+◌, Bool, true, false, cond, List, [], ◌∷◌, ◌++◌, map, length, take, Option, None, Some, Ok, refl, sym, ap, subst, ◌∙◌, arith}
 use Rattle.std.specs.Prelude.{slice_get, option_map}
-use Rattle.std.proofs.lemmas.Slice.Zip.{AllZip-long}
-use Rattle.std.specs.List.{AllZip}
 use Rattle.rl_labels.specs.Name.{is_text}
 use Rattle.rl_rules.specs.declared.rule.Group.{Group}
 use Rattle.rl_records.specs.declared.step.ShardReply.{ShardReply}
 use Rattle.rl_records.specs.declared.step.ShardStep.{ShardStep}
-use Rattle.rl_world.specs.Closed.{IsBookClosed, IsClosed}
 use Rattle.rl_world.specs.WorldState.{BookState, WorldBooks}
 use Rattle.rl_session.specs.Engine.{Listed, number_named}
 use Rattle.rl_session.specs.WorldEngine.{IsAskedFor, AreDecided, first_refused, listed, or_else, refusing}
-
--- books whose sinks were closed are listed as before
-pub closed_listed : (olds news : List BookState) → AllZip IsBookClosed olds news → map listed news ≡ map listed olds
-closed_listed [] [] closes = refl
-closed_listed (old ∷ olds) (new ∷ news) closes =
-    let same : listed new ≡ record { name = old.history.group.name; sinks = length new.sinks } = ap (λ (book : BookState). record { name = book.history.group.name; sinks = length new.sinks }) closes.0.0 in
-    let many : length new.sinks ≡ length old.sinks = AllZip-long IsClosed old.sinks new.sinks closes.0.1 in
-    λ i. (same ∙ ap (λ n. record { name = old.history.group.name; sinks = n }) many) i ∷ closed_listed olds news closes.1 i
-closed_listed [] (new ∷ news) closes = absurd closes
-closed_listed (old ∷ olds) [] closes = absurd closes
 
 -- a shard more decided a step
 pub decided_more : (old : WorldBooks) (step : ShardStep) (from at : ℕ) (replies : List ShardReply) (mid : WorldBooks) (reply : ShardReply) (new : WorldBooks) → at ≡ from + length replies → AreDecided old step from replies mid → IsAskedFor mid step at (Ok reply) new → AreDecided old step from (replies ++ reply ∷ []) new

@@ -1,5 +1,5 @@
 -- Command lines: words one space apart, of which the last may be the rest of the line.
-use Rattle.std.specs.Prelude.{ℕ, ◌==◌, ◌^◌, nat_lt, Bool, ◌&&◌, ◌||◌, List, length, Option, None, Some, option_and_then, option_map, codes, if◌then◌else◌}
+use Rattle.std.specs.Prelude.{ℕ, ◌==◌, ◌^◌, nat_lt, Bool, true, false, ◌&&◌, ◌||◌, List, length, Option, None, Some, option_and_then, option_map, codes, if◌then◌else◌}
 use Rattle.std.specs.Char.{is_ascii_digit}
 use Rattle.std.specs.List.{list_all, position_or_len, before_first, after_first}
 use Rattle.std.specs.Str.Parse.{digits_value}
@@ -25,6 +25,7 @@ pub data Asked : Type 0 where
   ticks : (now : ℕ) → Asked
   pumps : (group : List ℕ) → Asked
   shows : (sink : ℕ) (group : List ℕ) → Asked
+  blocks : Asked
   ends : Asked
 
 abbrev pub asked : Command → Asked
@@ -40,6 +41,7 @@ asked (commands.Eval t group) = evaluates t group.now
 asked (commands.Tick now) = ticks now
 asked (commands.Pump group) = pumps group.now
 asked (commands.Show sink group) = shows sink group.now
+asked commands.Par = blocks
 asked commands.End = ends
 
 -- the parts before and after the first such byte
@@ -105,7 +107,22 @@ command_of line =
     if is_text line (codes "end") then Some ends
     else (if is_text line (codes "cut") then Some cuts
     else (if is_text line (codes "flush") then Some flushes
-    else option_and_then command_of_words (cut_at 32 line)))
+    else (if is_text line (codes "par") then Some blocks
+    else option_and_then command_of_words (cut_at 32 line))))
+
+-- whether a line of a block may have the command: it takes lines, or asks every shard or all rules of a group
+abbrev pub is_for_block : Asked → Bool
+is_for_block (edits document) = false
+is_for_block (ticks now) = false
+is_for_block (pumps group) = false
+is_for_block (shows sink group) = false
+is_for_block blocks = false
+is_for_block ends = false
+is_for_block asked = true
+
+-- the command of a line of a block, if it may have it
+abbrev pub command_in_block : List ℕ → Option Asked
+command_in_block line = option_and_then (λ asked. if is_for_block asked then Some asked else None) (command_of line)
 
 -- a space, a tab or a carriage return
 abbrev pub is_blank_byte : ℕ → Bool

@@ -41,8 +41,8 @@ pub record Calls (E : Type 0) : Type 1 where
   pub is_due : E → ℕ → ℕ → Bool → Type 0
   -- what the sink at a number has of the group at a number, if there is one
   pub shows : E → ℕ → ℕ → Option Shown → Type 0
-  -- its sinks are closed: how many of them could not write all
-  pub closes : E → Result ℕ Refusal → E → Type 0
+  -- whether a line may begin a block
+  pub blocks : Bool
 
 -- each call is one of the engine below
 abbrev pub calls_below : {E S : Type 0} → (S → E) → Calls E → Calls S
@@ -55,7 +55,7 @@ calls_below below calls = record {
   catches_up = λ old group result new. calls.catches_up (below old) group result (below new);
   is_due = λ s group now due. calls.is_due (below s) group now due;
   shows = λ s group sink shown. calls.shows (below s) group sink shown;
-  closes = λ old result new. calls.closes (below old) result (below new);
+  blocks = calls.blocks;
 }
 
 -- the number of the first group with a name, if there is one

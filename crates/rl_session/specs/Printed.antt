@@ -143,10 +143,9 @@ answer_to (command_results.CaughtUp result) = answer_of (is_err result)
 answer_to (command_results.Ticked results) = answer_of (list_any is_err results.items)
 answer_to _ = Refused
 
+-- the last line: the sinks are closed, or they are not, for a reason with a name
+abbrev pub closed_line : List ℕ
+closed_line = codes "closed\n"
+
 abbrev pub not_closed_line : List ℕ → List ℕ
 not_closed_line name = codes "not closed " ++ (name ++ codes "\n")
-
--- the last line, by whether the sinks were closed
-abbrev pub closed_text : Result ℕ Refusal → List ℕ
-closed_text (Ok failures) = codes "closed\n"
-closed_text (Err refusal) = not_closed_line (refusal_name refusal)

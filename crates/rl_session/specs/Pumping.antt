@@ -31,5 +31,5 @@ pumping_calls below pumps calls = record {
   catches_up = λ old group result new. calls.catches_up (below old) group result (below new) × (pumps new ≡ pumps old);
   is_due = λ s group now due. calls.is_due (below s) group now due;
   shows = λ s group sink shown. calls.shows (below s) group sink shown;
-  closes = λ old result new. calls.closes (below old) result (below new) × (pumps new ≡ pumps old);
+  blocks = calls.blocks;
 }

@@ -87,12 +87,11 @@ abbrev pub IsCaughtUp : WorldBooks → ℕ → Result (List ℕ) Refusal → Wor
 IsCaughtUp old group answer new = Turned old (steps.CatchUp group) (as_reply replies.CaughtUp answer) new
 
 -- each sink is closed, and how many could not write all, as a number of 64 bits or the greatest of them
-abbrev pub IsClosed : {S : Type 0} → (S → SinkState) → (S → Result ⊤ SinkFault → Type 0) → WorldBooks → Result ℕ Refusal → WorldBooks → Type 0
-IsClosed state Says old (Ok count) new = (new.shards ≡ old.shards) × AllZip IsBookClosed old.books new.books × (count ≡ min (failures (sinks_of new.books)) (2 ^ 64 - 1)) × AllByRecursion (HasAnswered state Says) (sinks_of new.books)
-IsClosed state Says old (Err refusal) new = ⊥
+abbrev pub IsClosed : {S : Type 0} → (S → SinkState) → (S → Result ⊤ SinkFault → Type 0) → WorldBooks → ℕ → WorldBooks → Type 0
+IsClosed state Says old count new = (new.shards ≡ old.shards) × AllZip IsBookClosed old.books new.books × (count ≡ min (failures (sinks_of new.books)) (2 ^ 64 - 1)) × AllByRecursion (HasAnswered state Says) (sinks_of new.books)
 
-abbrev pub world_calls : {S : Type 0} → (S → SinkState) → (S → Result ⊤ SinkFault → Type 0) → Calls WorldBooks
-world_calls state Says = record {
+abbrev pub world_calls : Calls WorldBooks
+world_calls = record {
   groups = λ world. map listed world.books;
   pushes = IsPushed;
   asks_all = IsAskedOfAll;
@@ -101,7 +100,7 @@ world_calls state Says = record {
   catches_up = IsCaughtUp;
   is_due = λ world group now due. due ≡ is_due_at (slice_get world.books group) now;
   shows = λ world group sink shown. shown ≡ option_map shown_of (sink_at world.books group sink);
-  closes = IsClosed state Says;
+  blocks = false;
 }
 
 -- no group and no sink comes or goes, and no shard

@@ -3,7 +3,7 @@ ghost use Rattle.std.specs.Prelude.{◌≡◌, ◌<◌};
 ghost use Rattle.std.specs.Char.{is_ascii_digit};
 ghost use Rattle.std.specs.List.{list_all};
 ghost use Rattle.std.specs.Option.{option_map, option_and_then};
-ghost use Rattle.rl_session.specs.Command.{asked, cut_at, delete_of, ticks, time_of, eval_of, id_of, process_of, request_of_words, show_of, command_of_words, command_of, is_blank_byte, is_number};
+ghost use Rattle.rl_session.specs.Command.{asked, cut_at, delete_of, ticks, time_of, eval_of, id_of, process_of, request_of_words, show_of, command_of_words, command_of, command_in_block, is_blank_byte, is_for_block, is_number};
 
 use rl_deletes::Deletion;
 use rl_labels::{Decimal, Ns, number_of};
@@ -35,6 +35,8 @@ pub enum Command<'a> {
     Pump(&'a str),
     /// To show the texts that a sink of a group keeps.
     Show { sink: usize, group: &'a str },
+    /// To begin a block of lines, each of a caller.
+    Par,
     /// To end the session.
     End,
 }
@@ -52,8 +54,35 @@ pub fn read_command(line: &str) -> Option<Command<'_>>
     if line == "flush" {
         return Some(Command::Flush);
     }
+    if line == "par" {
+        return Some(Command::Par);
+    }
     let (word, rest) = cut_at(line, ' ')?;
     read_words(word, rest)
+}
+
+/// The command of a line of a block, if it may have it: push, cut, flush, delete, cancel, process, retain or eval.
+pub fn read_in_block(line: &str) -> Option<Command<'_>>
+    ensures { option_map asked result ≡ command_in_block line.now }
+{
+    match read_command(line) {
+        Some(command) if is_for_block(&command) => Some(command),
+        _ => None,
+    }
+}
+
+fn is_for_block(command: &Command<'_>) -> bool
+    ensures { result ≡ is_for_block (asked command.now) }
+{
+    !matches!(
+        command,
+        Command::Edit(_)
+            | Command::Tick { .. }
+            | Command::Pump(_)
+            | Command::Show { .. }
+            | Command::Par
+            | Command::End
+    )
 }
 
 /// Whether a line has nothing but spaces, tabs and carriage returns.
@@ -188,8 +217,8 @@ fn time_of(word: &str) -> Option<Ns>
     Ns::new(u64::try_from(seconds.billionths()).ok()?)
 }
 
-// The parts before and after the first such character.
-fn cut_at(text: &str, sign: char) -> Option<(&str, &str)>
+/// The parts before and after the first such character.
+pub fn cut_at(text: &str, sign: char) -> Option<(&str, &str)>
     requires { sign < 128 }
     ensures { option_map (λ parts. (parts.0.now, parts.1.now)) result ≡ cut_at sign text.now }
 {

@@ -1,5 +1,5 @@
 //! What a session asks of whatever evaluates its groups.
-ghost use Rattle.std.specs.Prelude.{◌≡◌, length, IfOk};
+ghost use Rattle.std.specs.Prelude.{◌≡◌, ℕ, length, IfOk};
 ghost use Rattle.rl_session.specs.Engine.{Calls, number_named, ShowsIn};
 
 use crate::printer::Printer;
@@ -68,8 +68,17 @@ pub trait Engine: Drop {
     fn show<W: Write>(&self, group: usize, sink: usize, out: &mut Printer<W>) -> bool
         ensures { ShowsIn calls self.now group sink out.old result out.new };
 
+    /// Whether lines over it stop at one that begins a block.
+    fn takes_blocks(&self) -> bool
+        ensures { result ≡ calls.blocks };
+}
+
+/// An engine whose sinks can be closed where it stands.
+pub trait Closes: Engine {
+    // What is known of a close: how many sinks could not write all.
+    ghost closes: { Self → ℕ → Self → Type 0 };
+
     /// Closes the sinks. How many could not write all.
-    fn close(&mut self) -> Result<u64, Refusal>
-        ensures answer { calls.closes self.old result self.new }
-        ensures groups { calls.groups self.new ≡ calls.groups self.old };
+    fn close(&mut self) -> u64
+        ensures { closes self.old result self.new };
 }

@@ -137,8 +137,8 @@ pub fn split_front(text: &str) -> Option<(&str, &str)>
     }
 }
 
-// A text's first line, and what follows its line feed.
-pub(crate) fn first_line(text: &str) -> (&str, Option<&str>)
+/// A text's first line, and what follows its line feed.
+pub fn first_line(text: &str) -> (&str, Option<&str>)
     ensures { IsFirstLine text.now result.0.now (option_copied result.1) }
 {
     match memchr(b'\n', text.as_bytes()) {

@@ -128,8 +128,8 @@ pub fn push_refusal(answer: &Result<ShardReply, Refusal>) -> Option<&'static str
     }
 }
 
-// The name under which a shard refused an entry or a request, if it did.
-pub(crate) fn shard_refusal(reply: &ShardReply) -> Option<&'static str>
+/// The name under which a shard refused an entry or a request, if it did.
+pub fn shard_refusal(reply: &ShardReply) -> Option<&'static str>
     ensures { option_map (λ name. name.now) result ≡ shard_refusal reply.now }
 {
     match reply {

@@ -5,7 +5,7 @@ ghost use Rattle.std.specs.Option.{option_map};
 ghost use Rattle.rl_sinks.specs.Texts.{tail_text};
 ghost use Rattle.rl_session.specs.Engine.{IsAnswered};
 ghost use Rattle.rl_session.specs.Printer.{Prints};
-ghost use Rattle.rl_session.specs.Printed.{refusal_line, bad_push_line, counts_line, entry_line, entry_lines, is_refused, evaluated_text, ticked_text, pushed_text, none_pushed, asked_text, decided_text, partly_line, number_text, behind_line, caught_up_text, committed_text, printed, answer_of, answer_to, closed_text, not_closed_line};
+ghost use Rattle.rl_session.specs.Printed.{refusal_line, bad_push_line, counts_line, entry_line, entry_lines, is_refused, evaluated_text, ticked_text, pushed_text, none_pushed, asked_text, decided_text, partly_line, number_text, behind_line, caught_up_text, committed_text, printed, answer_of, answer_to, not_closed_line};
 
 use crate::edit::EditRefusal;
 use crate::engine::Partly;
@@ -24,10 +24,12 @@ use std::io::Write;
 
 /// What became of a command.
 #[derive(Clone, Copy)]
-pub(crate) enum Answer {
+pub enum Answer {
     Taken,
     // Wholly or in part.
     Refused,
+    // A block begins.
+    Block,
     Ended,
 }
 
@@ -307,17 +309,8 @@ fn write_numbers<W: Write>(numbers: &[u64], out: &mut Printer<W>)
     }
 }
 
-/// Prints whether the sinks were closed.
-pub(crate) fn write_closed<W: Write>(closed: &Result<u64, Refusal>, out: &mut Printer<W>)
-    ensures { Prints out.old (closed_text closed.now) out.new }
-{
-    match closed {
-        Ok(_failed) => out.text("closed\n"),
-        Err(refusal) => write_not_closed(refusal_name(*refusal), out),
-    }
-}
-
-fn write_not_closed<W: Write>(name: &str, out: &mut Printer<W>)
+/// Prints why the sinks were not closed.
+pub(crate) fn write_not_closed<W: Write>(name: &str, out: &mut Printer<W>)
     ensures { Prints out.old (not_closed_line name.now) out.new }
 {
     out.text("not closed ");

@@ -54,9 +54,25 @@ impl<W: Write> Printer<W> {
         ensures prints { Prints self.old text.now self.new }
         ensures stays { IsTrue self.old.failed → (self.new.failed ≡ true) × (self.new.held ≡ self.old.held) }
     {
-        let rest = write_unless(self.failed, &mut self.writer, text.as_bytes());
+        self.bytes(text.as_bytes());
+    }
+
+    /// Prints the bytes of texts.
+    pub fn bytes(&mut self, bytes: &[u8])
+        ensures prints { Prints self.old bytes.now self.new }
+        ensures stays { IsTrue self.old.failed → (self.new.failed ≡ true) × (self.new.held ≡ self.old.held) }
+    {
+        let rest = write_unless(self.failed, &mut self.writer, bytes);
         self.failed |= !rest.is_empty();
         leave(&mut self.unwritten, rest);
+    }
+
+    /// Counts as a write that failed: something that was to be printed could not be made.
+    pub fn fail(&mut self)
+        ensures same { Keeps (as_list self.old) (as_list self.new) }
+        ensures failed { (self.new.failed ≡ true) × (self.new.held ≡ self.old.held) }
+    {
+        self.failed = true;
     }
 
     /// Prints a number.

@@ -2,7 +2,7 @@
 ghost use Rattle.std.specs.Prelude.{◌≡◌, ℕ, true, IfOk};
 ghost use Rattle.rl_session.specs.Pumping.{CatchesUpAfter};
 
-use crate::engine::{Engine, Partly};
+use crate::engine::{Closes, Engine, Partly};
 use crate::printer::Printer;
 use rl_labels::{Entry, Ns};
 use rl_plain::{PlainList, Shared};
@@ -82,7 +82,15 @@ impl<E: Engine> Engine for Pumping<E> {
         self.engine.show(group, sink, out)
     }
 
-    fn close(&mut self) -> Result<u64, Refusal> {
+    fn takes_blocks(&self) -> bool {
+        self.engine.takes_blocks()
+    }
+}
+
+impl<E: Closes> Closes for Pumping<E> {
+    ghost closes = { λ old failed new. E.closes old.engine failed new.engine × (new.pumps ≡ old.pumps) };
+
+    fn close(&mut self) -> u64 {
         self.engine.close()
     }
 }

@@ -1,19 +1,20 @@
 //! A session: commands in their order over an engine, and what they print.
-ghost use Rattle.std.specs.Prelude.{◌≡◌, Some};
-ghost use Rattle.rl_session.specs.Command.{asked, command_of};
+ghost use Rattle.std.specs.Prelude.{◌≡◌, Some, false};
+ghost use Rattle.rl_session.specs.Command.{asked, blocks, command_of};
 ghost use Rattle.rl_session.specs.Engine.{number_named};
-ghost use Rattle.rl_session.specs.Session.{Executes, ExecutesLine, ExecutesText, ExecutesSession, ShowsTo, is_end, is_refusal, ended_by};
+ghost use Rattle.rl_session.specs.Printed.{closed_line, not_closed_line};
+ghost use Rattle.rl_session.specs.Session.{Executes, ExecutesInBlock, ExecutesLine, ExecutesText, ExecutesSession, IsEnded, ShowsTo, is_refusal, ended_by, stop_at};
+ghost use Rattle.rl_session.specs.declared.session.Status.TheVariants.{Refused};
 ghost use Rattle.rl_session.specs.declared.session.RunError.TheVariants.{WriteFault, Memory};
 
 use crate::asking::{ask_all, catch_up, delete, edit, eval, push, tick};
-use crate::command::{Command, is_blank, read_command};
-use crate::engine::Engine;
+use crate::command::{Command, is_blank, read_command, read_in_block};
+use crate::engine::{Closes, Engine};
 use crate::front::first_line;
-use crate::output::{Answer, CommandResult, write_closed, write_result};
+use crate::output::{Answer, CommandResult, write_not_closed, write_result};
 use crate::printer::Printer;
 use crate::push::PushReader;
 use rl_shard::ShardStep;
-use rl_world::Refusal;
 use std::alloc::{AllocError, AllocFailed, Global};
 use std::io;
 use std::io::Write;
@@ -64,15 +65,32 @@ impl<T: Drop> From<AllocFailed<T>> for RunError {
     }
 }
 
+/// Where lines stopped.
+#[derive(Clone, Copy)]
+pub enum StoppedAt<'a> {
+    /// After the last one, or at an `end`.
+    End,
+    /// At one that begins a block: the text after it, if it is not the last.
+    Block(Option<&'a str>),
+}
+
+/// How lines stopped.
+#[derive(Clone, Copy)]
+pub struct Stopped<'a> {
+    /// Whether one was refused, wholly or in part.
+    pub refused: bool,
+    pub at: StoppedAt<'a>,
+}
+
 /// Commands over an engine.
 #[derive(Drop)]
-pub struct Session<E: Engine> {
+pub struct Session<E: Closes> {
     alloc: Global,
     engine: E,
 }
 
-impl<E: Engine> Session<E> {
-    /// A session over the engine as it is.
+impl<E: Closes> Session<E> {
+    /// A session over the engine as it is, which takes no blocks.
     pub fn new(alloc: Global, engine: E) -> Self
         ensures { result.engine ≡ engine }
     {
@@ -87,14 +105,13 @@ impl<E: Engine> Session<E> {
         commands: &str,
         out: &mut Printer<W>,
     ) -> Result<Status, RunError>
-        ensures { ExecutesSession E.calls self.old.engine commands.now out.old result out.new self.new.engine }
+        requires { E.calls.blocks ≡ false }
+        ensures { ExecutesSession E.calls E.closes self.old.engine commands.now out.old result out.new self.new.engine }
     {
-        let refused = answer_lines(self.alloc, &mut self.engine, commands, out);
-        let closed = self.engine.close();
-        let refused = refused?;
-        write_closed(&closed, out);
-        out.flush()?;
-        Ok(status_of(closed, refused))
+        let stopped = run_lines(self.alloc, &mut self.engine, commands, out);
+        let failed = self.engine.close();
+        let stopped = stopped?;
+        end_closed(failed, stopped.refused, out)
     }
 
     /// The engine as the session left it.
@@ -105,24 +122,49 @@ impl<E: Engine> Session<E> {
     }
 }
 
-// How a session ends, by its close and whether a line was refused.
-fn status_of(closed: Result<u64, Refusal>, refused: bool) -> Status
-    ensures { result ≡ ended_by closed refused }
+/// Prints that the sinks are closed, of which so many could not write all. How the session ends.
+pub fn end_closed<W: Write>(
+    failed: u64,
+    refused: bool,
+    out: &mut Printer<W>,
+) -> Result<Status, RunError>
+    ensures { IsEnded closed_line (ended_by failed refused) out.old result out.new }
 {
-    match closed {
-        Ok(failed) if failed > 0 => Status::Unwritten,
-        Ok(_) if !refused => Status::Taken,
-        _ => Status::Refused,
+    out.text("closed\n");
+    out.flush()?;
+    Ok(status_of(failed, refused))
+}
+
+/// Prints why the sinks were not closed.
+pub fn end_not_closed<W: Write>(name: &str, out: &mut Printer<W>) -> Result<Status, RunError>
+    ensures { IsEnded (not_closed_line name.now) Refused out.old result out.new }
+{
+    write_not_closed(name, out);
+    out.flush()?;
+    Ok(Status::Refused)
+}
+
+// How a session ends that was closed.
+fn status_of(failed: u64, refused: bool) -> Status
+    ensures { result ≡ ended_by failed refused }
+{
+    if failed > 0 {
+        Status::Unwritten
+    } else if refused {
+        Status::Refused
+    } else {
+        Status::Taken
     }
 }
 
-// Answers each line in order up to `end`. Whether one was refused, wholly or in part.
-fn answer_lines<E: Engine, W: Write>(
+/// Carries out the commands of a text, and prints what they print, up to `end`, or up to `par`, if the engine takes blocks. After a
+/// write that failed no line is looked at.
+pub fn run_lines<'a, E: Engine, W: Write>(
     alloc: Global,
     engine: &mut E,
-    commands: &str,
+    commands: &'a str,
     out: &mut Printer<W>,
-) -> io::Result<bool>
+) -> io::Result<Stopped<'a>>
     ensures { ExecutesText E.calls engine.old commands.now out.old result out.new engine.new }
 {
     let mut reader = PushReader::new(alloc);
@@ -131,21 +173,46 @@ fn answer_lines<E: Engine, W: Write>(
     loop {
         let (line, following) = first_line(rest);
         let answer = answer_line(alloc, &mut reader, engine, line, out)?;
-        if is_end(answer) {
-            return Ok(refused);
+        if let Some(at) = stop_at(answer, following) {
+            return Ok(Stopped { refused, at });
         }
         refused |= is_refusal(answer);
         rest = match following {
             Some(following) => following,
-            None => return Ok(refused),
+            None => return Ok(Stopped {
+                refused,
+                at: StoppedAt::End,
+            }),
         };
     }
 }
 
-fn is_end(answer: Answer) -> bool
-    ensures { result ≡ is_end answer }
+// Where lines stop at an answer, if they do.
+fn stop_at(answer: Answer, following: Option<&str>) -> Option<StoppedAt<'_>>
+    ensures { result ≡ stop_at answer following.entry }
 {
-    matches!(answer, Answer::Ended)
+    match answer {
+        Answer::Ended => Some(StoppedAt::End),
+        Answer::Block => Some(StoppedAt::Block(following)),
+        Answer::Taken | Answer::Refused => None,
+    }
+}
+
+/// Executes the command of a line of a block, and prints what it prints. Whether it was refused, wholly or in part.
+pub fn answer_in_block<E: Engine, W: Write>(
+    alloc: Global,
+    reader: &mut PushReader,
+    engine: &mut E,
+    line: &str,
+    out: &mut Printer<W>,
+) -> bool
+    ensures { ExecutesInBlock E.calls engine.old line.now out.old result out.new engine.new }
+{
+    let answer = match read_in_block(line) {
+        Some(command) => execute(alloc, reader, engine, &command, out),
+        None => write_result(&CommandResult::Refused, out),
+    };
+    is_refusal(answer)
 }
 
 fn is_refusal(answer: Answer) -> bool
@@ -212,7 +279,19 @@ fn execute<E: Engine, W: Write>(
         Command::Tick { now } => write_result(&tick(alloc, engine, now), out),
         Command::Pump(group) => write_result(&catch_up(engine, group), out),
         Command::Show { sink, group } => show(engine, sink, group, out),
+        Command::Par => begin_block(engine, out),
         Command::End => Answer::Ended,
+    }
+}
+
+// Begins a block, if the engine takes one.
+fn begin_block<E: Engine, W: Write>(engine: &E, out: &mut Printer<W>) -> Answer
+    ensures { Executes E.calls engine.now (Some blocks) out.old result out.new engine.now }
+{
+    if engine.takes_blocks() {
+        Answer::Block
+    } else {
+        write_result(&CommandResult::Refused, out)
     }
 }
 

@@ -8,7 +8,7 @@ ghost use Rattle.rl_session.specs.Engine.{IsAnswered, number_named, kept_text};
 ghost use Rattle.rl_session.specs.Printer.{Prints};
 ghost use Rattle.rl_session.specs.WorldEngine.{IsAlike, IsAskedOne, IsAskedFor, IsAskedOfAll, or_else, refusing, listed, shown_of};
 
-use crate::engine::{Engine, Partly};
+use crate::engine::{Closes, Engine, Partly};
 use crate::names::shard_refusal;
 use crate::printer::Printer;
 use rl_chunks::Store;
@@ -137,7 +137,7 @@ impl<D: Store, S: Sink> WorldEngine<D, S> {
 impl<D: Store, S: Sink> Engine for WorldEngine<D, S> {
     ghost use Rattle.rl_session.specs.WorldEngine.{world_calls};
 
-    ghost calls = { world_calls S.state S.close_answers };
+    ghost calls = { world_calls };
 
     fn groups(&self) -> usize {
         self.world.groups()
@@ -183,8 +183,18 @@ impl<D: Store, S: Sink> Engine for WorldEngine<D, S> {
         }
     }
 
-    fn close(&mut self) -> Result<u64, Refusal> {
-        Ok(self.world.close_sinks())
+    fn takes_blocks(&self) -> bool {
+        false
+    }
+}
+
+impl<D: Store, S: Sink> Closes for WorldEngine<D, S> {
+    ghost use Rattle.rl_session.specs.WorldEngine.{IsClosed};
+
+    ghost closes = { IsClosed S.state S.close_answers };
+
+    fn close(&mut self) -> u64 {
+        self.world.close_sinks()
     }
 }
 

@@ -76,12 +76,13 @@ pub(crate) fn push_command(
     let location = Location::whole(Some(number));
     let ends = match read_command(line) {
         Some(Command::End) => true,
-        Some(command) => {
-            push_asked(findings, known, &location, number, &command)?;
+        // A block is for engines with callers, and the ruler's has none.
+        Some(Command::Par) | None => {
+            push_no_command(findings, &location, line)?;
             false
         }
-        None => {
-            push_no_command(findings, &location, line)?;
+        Some(command) => {
+            push_asked(findings, known, &location, number, &command)?;
             false
         }
     };

@@ -14,7 +14,7 @@ use Rattle.rl_session.specs.Printer.{Printing}
 use Rattle.rl_session.specs.Session.{ExecutesSession}
 use Rattle.rl_session.specs.declared.session.RunError.{RunError}
 use Rattle.rl_session.specs.declared.session.Status.{Status}
-use Rattle.rule_shell.specs.Runs.{ruler_calls, IsRun, Ruler}
+use Rattle.rule_shell.specs.Runs.{ruler_calls, IsRun, Ruler, RulerCloses}
 
 map_twice : {A B C : Type 0} (f : B → C) (g : A → B) (xs : List A) → map (λ x. f (g x)) xs ≡ map f (map g xs)
 map_twice f g [] = refl
@@ -23,7 +23,7 @@ map_twice f g (x ∷ xs) = ap (λ ys. f (g x) ∷ ys) (map_twice f g xs)
 pub ran : {S D : Type 0} (state : S → SinkState) (Says : S → Result ⊤ SinkFault → Type 0) (seen : D → Seen) (limits : Limits) (pumps : Bool) (stores : List D) (groups : List Group) (sinks : List (List SinkState)) (commands : List ℕ) (before after : Printing) (result : Result Status RunError) (start last : Ruler) (world : WorldBooks)
     → start.engine.engine ≡ world → start.engine.pumps ≡ pumps
     → world.shards ≡ map (λ store. opened_over limits (seen store)) stores → world.books ≡ books_from 0 limits.records (length stores) groups sinks
-    → ExecutesSession (ruler_calls state Says) start commands before result after last
+    → ExecutesSession (ruler_calls state Says) (RulerCloses state Says) start commands before result after last
     → IfOk result (IsRun state Says limits pumps (map seen stores) groups sinks commands before after)
 ran state Says seen limits pumps stores groups sinks commands before after (Err error) start last world is pumping shards books executes = tt
 ran state Says seen limits pumps stores groups sinks commands before after (Ok status) start last world is pumping shards books executes = record {

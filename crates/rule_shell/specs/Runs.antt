@@ -14,7 +14,7 @@ use Rattle.rl_session.specs.Engine.{Calls, calls_below}
 use Rattle.rl_session.specs.Printer.{Printing}
 use Rattle.rl_session.specs.Pumping.{pumping_calls}
 use Rattle.rl_session.specs.Session.{ExecutesSession}
-use Rattle.rl_session.specs.WorldEngine.{world_calls}
+use Rattle.rl_session.specs.WorldEngine.{IsClosed, world_calls}
 use Rattle.rl_session.specs.declared.pumping.Pumping.{Pumping}
 use Rattle.rl_session.specs.declared.session.Status.{Status}
 use Rattle.rule_shell.specs.declared.counting.Counting.{Counting}
@@ -35,7 +35,11 @@ Ruler = Counting (Pumping WorldBooks)
 
 module _ {S : Type 0} (state : S → SinkState) (Says : S → Result ⊤ SinkFault → Type 0) where
   abbrev pub ruler_calls : Calls Ruler
-  ruler_calls = calls_below (λ ruler. ruler.engine) (pumping_calls (λ ruler. ruler.engine) (λ ruler. ruler.pumps) (world_calls state Says))
+  ruler_calls = calls_below (λ ruler. ruler.engine) (pumping_calls (λ ruler. ruler.engine) (λ ruler. ruler.pumps) world_calls)
+
+  -- its sinks are closed, and nothing else changes
+  abbrev pub RulerCloses : Ruler → ℕ → Ruler → Type 0
+  RulerCloses old failed new = IsClosed state Says old.engine.engine failed new.engine.engine × (new.engine.pumps ≡ old.engine.pumps)
 
   -- the commands are executed over a world with these limits: with an empty shard over each store, and a book for each group with
   -- its sinks; after each evaluation the sinks catch up, where that is asked for
@@ -45,7 +49,7 @@ module _ {S : Type 0} (state : S → SinkState) (Says : S → Result ⊤ SinkFau
     pub books : start.engine.engine.books ≡ books_from 0 limits.records (length stores) groups sinks
     pub catches_up : start.engine.pumps ≡ pumps
     pub last : Ruler
-    pub executes : ExecutesSession ruler_calls start commands before (Ok status) after last
+    pub executes : ExecutesSession ruler_calls RulerCloses start commands before (Ok status) after last
 
   -- with the limits and the sinks that are asked for, which each group has
   abbrev pub IsRunOf : Plan → List Seen → List Group → List ℕ → Printing → Printing → Status → Type 0

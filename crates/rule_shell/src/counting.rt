@@ -5,7 +5,7 @@ use crate::tally::Tally;
 use rl_labels::{Entry, Ns};
 use rl_plain::{PlainList, Shared};
 use rl_rules::Group;
-use rl_session::{Engine, Partly, Printer};
+use rl_session::{Closes, Engine, Partly, Printer};
 use rl_shard::{ShardReply, ShardStep};
 use rl_world::{Committed, Refusal};
 use std::alloc::Global;
@@ -84,7 +84,15 @@ impl<E: Engine> Engine for Counting<E> {
         self.engine.show(group, sink, out)
     }
 
-    fn close(&mut self) -> Result<u64, Refusal> {
+    fn takes_blocks(&self) -> bool {
+        self.engine.takes_blocks()
+    }
+}
+
+impl<E: Closes> Closes for Counting<E> {
+    ghost closes = { λ old failed new. E.closes old.engine failed new.engine };
+
+    fn close(&mut self) -> u64 {
         self.engine.close()
     }
 }

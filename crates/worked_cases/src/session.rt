@@ -3,7 +3,7 @@
 //! The first line of `run` has limits, or how many texts may wait in the first recorder, as `cap=1`. In the second it is
 //! two. After it stand a rule file, the mark and commands. `push` has a body, in which `�` is the byte 255, which is in no
 //! text.
-ghost use Rattle.std.specs.Prelude.{◌≡◌, length, map, IfOk};
+ghost use Rattle.std.specs.Prelude.{◌≡◌, false, length, map, IfOk};
 ghost use Rattle.std.specs.List.{AllByRecursion};
 ghost use Rattle.rl_world.specs.BookCalls.{IsFresh};
 
@@ -15,7 +15,7 @@ use rl_labels::{Entry, Limits};
 use rl_rules::{Group, RulesFault};
 use rl_session::names::{front_fault_name, push_error_name};
 use rl_session::{
-    Engine, Front, FrontError, FrontFault, Printer, PushError, RunError, Session, Status,
+    Closes, Front, FrontError, FrontFault, Printer, PushError, RunError, Session, Status,
     WorldEngine, is_blank, read_front, read_push,
 };
 use rl_sinks::{Recorder, Sink};
@@ -129,11 +129,13 @@ fn run_session(
 }
 
 // What is printed, and how the session ends.
-fn run_commands<E: Engine>(
+fn run_commands<E: Closes>(
     alloc: Global,
     session: Session<E>,
     commands: &str,
-) -> (Vec<u8>, Result<Status, RunError>) {
+) -> (Vec<u8>, Result<Status, RunError>)
+    requires { E.calls.blocks ≡ false }
+{
     let mut session = session;
     let mut printer = Printer::new(Vec::new(alloc));
     let ended = session.run_commands(commands, &mut printer);

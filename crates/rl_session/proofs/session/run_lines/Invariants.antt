@@ -3,7 +3,7 @@ use Rattle.std.proofs.Common.{length}
 use denote.Text.{Utf8}
 use denote.Shadow.{shadow}
 use Rattle.rl_session.proofs.LinesSoFar.{ExecutedSoFar}
-use Rattle.rl_session.proofs.session.answer_lines.Given as goal
+use Rattle.rl_session.proofs.session.run_lines.Given as goal
 
 abbrev pub decreases-loop-reader : goal.decreases-loop-reader
 decreases-loop-reader g l = length l.rest
