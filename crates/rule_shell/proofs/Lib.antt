@@ -1,3 +1,5 @@
 mod Asked
+mod Crossing
 mod FreshSinks
 mod Ran
+mod Running

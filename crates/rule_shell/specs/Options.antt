@@ -1,5 +1,5 @@
 -- What the options ask for: limits, shards, stores and sinks.
-use Rattle.std.specs.Prelude.{◌≡◌, ◌≢◌, ◌⊎◌, ℕ, nat_le, ⊤, Bool, true, false, ◌&&◌, List, [], ◌∷◌, map, fold, Option, None, Some, is_some, Result, Ok, Err, codes, if◌then◌else◌}
+use Rattle.std.specs.Prelude.{◌≡◌, ◌≢◌, ◌⊎◌, ℕ, ◌≤◌, nat_le, ⊤, Bool, true, false, ◌&&◌, List, [], ◌∷◌, map, fold, Option, None, Some, is_some, Result, Ok, Err, codes, if◌then◌else◌}
 use Rattle.clap.specs.Words.{App, Row, Rule, Text, first_of, matches_of, new_app, new_rule, one_of, with_rule, fault_of}
 use Rattle.clap.specs.declared.builder.action.ArgAction.TheVariants.{SetTrue}
 use Rattle.rl_plain.specs.Answers.{◌>>=◌}
@@ -9,6 +9,7 @@ use Rattle.rl_labels.specs.LimitRanges.{first_out_of_range, raw_limits}
 use Rattle.rl_labels.specs.declared.limits.LimitField.{LimitField}
 use Rattle.rl_labels.specs.declared.limits.Limits.{Limits}
 use Rattle.rl_labels.specs.declared.limits.RawLimits.{RawLimits}
+use Rattle.rl_world.specs.ShardAnswers.{most_shards}
 use Rattle.rule_shell.specs.declared.Stop.{Stop}
 use Rattle.rule_shell.specs.declared.Stop.TheVariants.{BadOptions, BadFolder, BadInput, Failed}
 use Rattle.rule_shell.specs.declared.options.Options.{Options}
@@ -68,7 +69,7 @@ abbrev pub flag_rule : Text → Rule
 flag_rule name = record (new_rule name) { long = Some name; action = Some SetTrue }
 
 abbrev pub option_names : List Text
-option_names = codes "shards" ∷ codes "entries" ∷ codes "chunk-entries" ∷ codes "chunk-age" ∷ codes "cancel" ∷ codes "keep" ∷ codes "store" ∷ codes "sinks" ∷ codes "cap" ∷ codes "tail" ∷ []
+option_names = codes "shards" ∷ codes "callers" ∷ codes "entries" ∷ codes "chunk-entries" ∷ codes "chunk-age" ∷ codes "cancel" ∷ codes "keep" ∷ codes "store" ∷ codes "sinks" ∷ codes "cap" ∷ codes "tail" ∷ []
 
 abbrev pub flag_names : List Text
 flag_names = codes "pump" ∷ codes "summary" ∷ codes "new" ∷ []
@@ -94,6 +95,10 @@ pub record IsFlag (text : Option Text) (stands : Bool) : Type 0 where
 abbrev pub limits_of : List Row → Result RawLimits Stop
 limits_of rows = limits_asked (first_of (codes "entries") rows) (first_of (codes "chunk-entries") rows) (first_of (codes "chunk-age") rows) (first_of (codes "cancel") rows) (first_of (codes "keep") rows)
 
+-- so many shards and callers there may be
+abbrev pub AreWithin : (shards callers : ℕ) → Type 0
+AreWithin shards callers = (1 ≤ shards) × (shards ≤ most_shards) × (1 ≤ callers) × (callers ≤ 64)
+
 -- the sinks are those that the options ask for, or one of the options asks for none that there are
 abbrev pub AreSinks : List Row → Result SinkOptions Stop → Type 0
 AreSinks rows (Ok sinks) =
@@ -108,11 +113,15 @@ AreSinks rows (Err stop) =
 -- what is asked of a run besides its stores
 abbrev pub IsPlan : List Row → Result Plan Stop → Type 0
 IsPlan rows (Ok plan) =
-    AreChecked (limits_of rows) (Ok plan.limits)
+    (number_asked (first_of (codes "callers") rows) 2 64 ≡ Ok plan.callers)
+    × AreChecked (limits_of rows) (Ok plan.limits)
     × AreSinks rows (Ok plan.sinks)
     × IsFlag (one_of (codes "pump") rows) plan.pumps
     × IsFlag (one_of (codes "summary") rows) plan.summary
-IsPlan rows (Err stop) = AreChecked (limits_of rows) (Err stop) ⊎ AreSinks rows (Err stop)
+IsPlan rows (Err stop) =
+    (number_asked (first_of (codes "callers") rows) 2 64 ≡ Err stop)
+    ⊎ (AreChecked (limits_of rows) (Err stop)
+    ⊎ AreSinks rows (Err stop))
 
 -- the options are those that the words ask for, each by its own word
 pub record IsAsked (rows : List Row) (options : Options) : Type 0 where

@@ -5,7 +5,7 @@ use crate::tally::Tally;
 use rl_labels::{Entry, Ns};
 use rl_plain::{PlainList, Shared};
 use rl_rules::Group;
-use rl_session::{Closes, Engine, Partly, Printer};
+use rl_session::{Engine, Partly, Printer};
 use rl_shard::{ShardReply, ShardStep};
 use rl_world::{Committed, Refusal};
 use std::alloc::Global;
@@ -30,7 +30,9 @@ impl<E: Engine> Counting<E> {
     }
 
     /// The engine below, and what was counted.
-    pub(crate) fn into_parts(self) -> (E, Tally) {
+    pub(crate) fn into_parts(self) -> (E, Tally)
+        ensures { result.0 ≡ self.engine }
+    {
         (self.engine, self.tally)
     }
 }
@@ -86,13 +88,5 @@ impl<E: Engine> Engine for Counting<E> {
 
     fn takes_blocks(&self) -> bool {
         self.engine.takes_blocks()
-    }
-}
-
-impl<E: Closes> Closes for Counting<E> {
-    ghost closes = { λ old failed new. E.closes old.engine failed new.engine };
-
-    fn close(&mut self) -> u64 {
-        self.engine.close()
     }
 }

@@ -1,16 +1,14 @@
 //! The program: rules, a mark and commands from standard input, and what the commands print.
 //!
-//! What a session is stands in `rl_session`; here are the status, the stores and the sinks of the process.
-//! `options` reads its options. `output` is standard output for a sink in a box. `folder` keeps a folder for one run. `counting`,
-//! `tally` and `counted` count what the engine and the stores do, and print it.
+//! What a session is stands in `rl_session`, and what its callers are in `rl_callers`; here are the status, the stores and the
+//! sinks of the process. `options` reads its options. `session` runs the commands by callers of a ruler, and closes it. `output`
+//! is standard output for a sink in a box. `folder` keeps a folder for one run. `counting`, `tally` and `counted` count what
+//! callers and stores do, and print it.
 #![tactic(auto)]
 
 ghost use Rattle.std.specs.Prelude.{◌≡◌, ◌≤◌, length, map, IfOk};
-ghost use Rattle.std.specs.List.{AllByRecursion};
 ghost use Rattle.std.specs.Process.{exit_status};
-ghost use Rattle.rl_world.specs.BookCalls.{IsFresh};
-ghost use Rattle.rl_world.specs.ShardAnswers.{most_shards};
-ghost use Rattle.rule_shell.specs.Runs.{sinks_asked, IsRunOf};
+ghost use Rattle.rule_shell.specs.Options.{AreWithin};
 ghost use Rattle.rule_shell.specs.Statuses.{status_number, stop_at};
 ghost use Rattle.rule_shell.specs.Stores.{shard_folder, shard_folders};
 ghost use Rattle.rule_shell.specs.declared.Stop.TheVariants.{Failed};
@@ -20,31 +18,34 @@ mod counting;
 mod folder;
 mod options;
 mod output;
+mod session;
 mod tally;
 
 use counted::Counted;
-use counting::Counting;
 use folder::{FolderFault, claim_folder, release_folder};
 use options::{Options, Plan, SinkOptions, read_options};
 use output::Output;
 use rl_chunks::{DirStore, MemStore, Store};
 use rl_plain::PlainText;
-use rl_rules::Group;
 use rl_session::names::front_fault_name;
-use rl_session::{
-    Front, FrontError, FrontFault, Printer, Pumping, RunError, Session, Status, WorldEngine,
-    read_front,
-};
+use rl_session::{Front, FrontError, FrontFault, Printer, RunError, Status, read_front};
 use rl_sinks::{Notifier, Recorder, Sink, Tail};
-use rl_world::{Book, World};
+use session::{Given, run_session};
 use std::alloc::{AllocError, AllocFailed, Global};
 use std::fs;
-use std::io::{self, BufWriter, Write};
+use std::io::BufWriter;
+use std::marker::Brand;
 use std::process::ExitCode;
+use std::sync::Wait;
+use std::sync::ledger::Blank;
+use std::thread::Threads;
 
 // The room for what waits to be written, in bytes: the answer to most commands is written at once. The C library goes through
 // all free memory where a block of 65,536 bytes or more is given back, so it stays below.
 const OUTPUT_ROOM: usize = 61_440;
+
+// What a session prints on.
+type Out = BufWriter<Output<HostRuntime>>;
 
 // What ends the program before the commands.
 #[derive(Clone, Copy, Drop)]
@@ -73,7 +74,7 @@ impl<T: Drop> From<AllocFailed<T>> for Stop {
 }
 
 fn main(rt: HostRuntime) -> ExitCode {
-    let ended = run(&rt);
+    let ended = run(&rt, &rt);
     if let Err(stop) = ended {
         report_stop(&rt, stop);
     }
@@ -110,15 +111,15 @@ fn exit_code(ended: Result<Status, Stop>) -> ExitCode
 }
 
 // Reads the options and the input, and runs the commands. A folder that has to be new is kept for the run meanwhile.
-fn run(rt: &HostRuntime) -> Result<Status, Stop> {
+fn run<R: Threads + Wait + Sync>(rt: &HostRuntime, threads: &R) -> Result<Status, Stop> {
     let options = read_options(rt)?;
     match claim(rt, &options)? {
         Some(lock) => {
-            let ended = run_input(rt, options);
+            let ended = run_input(rt, threads, options);
             release_folder(rt, &lock);
             ended
         }
-        None => run_input(rt, options),
+        None => run_input(rt, threads, options),
     }
 }
 
@@ -131,12 +132,16 @@ fn claim(rt: &HostRuntime, options: &Options) -> Result<Option<PlainText>, Stop>
 }
 
 // Reads the input, and runs the commands.
-fn run_input(rt: &HostRuntime, options: Options) -> Result<Status, Stop>
-    requires { (1 ≤ options.shards) × (options.shards ≤ most_shards) }
+fn run_input<R: Threads + Wait + Sync>(
+    rt: &HostRuntime,
+    threads: &R,
+    options: Options,
+) -> Result<Status, Stop>
+    requires { AreWithin options.shards options.plan.callers }
 {
     let mut reader = rt.reader();
     match read_front(rt.alloc(), &mut reader) {
-        Ok(front) => run_front(rt, options, front),
+        Ok(front) => run_front(rt, threads, options, front),
         Err(error) => Err(stop_at(error)),
     }
 }
@@ -152,8 +157,13 @@ fn stop_at(error: FrontError) -> Stop
 }
 
 // Runs the commands over stores in memory, or in folders.
-fn run_front(rt: &HostRuntime, options: Options, front: Front) -> Result<Status, Stop>
-    requires { (1 ≤ options.shards) × (options.shards ≤ most_shards) }
+fn run_front<R: Threads + Wait + Sync>(
+    rt: &HostRuntime,
+    threads: &R,
+    options: Options,
+    front: Front,
+) -> Result<Status, Stop>
+    requires { AreWithin options.shards options.plan.callers }
 {
     let Options {
         shards,
@@ -164,9 +174,9 @@ fn run_front(rt: &HostRuntime, options: Options, front: Front) -> Result<Status,
     match store {
         Some(folder) => {
             let stores = folder_stores(rt, folder.as_str(), shards)?;
-            run_over(rt, plan, stores, front)
+            run_over(rt, threads, plan, stores, front)
         }
-        None => run_over(rt, plan, memory_stores(rt.alloc(), shards)?, front),
+        None => run_over(rt, threads, plan, memory_stores(rt.alloc(), shards)?, front),
     }
 }
 
@@ -214,13 +224,14 @@ fn folder_store(
 }
 
 // Runs the commands over the stores, with sinks of its own for each group.
-fn run_over<D: Store>(
+fn run_over<D: Store + Send, R: Threads + Wait + Sync>(
     rt: &HostRuntime,
+    threads: &R,
     plan: Plan,
     stores: Vec<Counted<D>>,
     front: Front,
 ) -> Result<Status, Stop>
-    requires { (1 ≤ length stores.items) × (length stores.items ≤ most_shards) }
+    requires { AreWithin (length stores.items) plan.callers }
 {
     let alloc = rt.alloc();
     let SinkOptions { all, cap, tail } = plan.sinks;
@@ -241,83 +252,20 @@ fn run_over<D: Store>(
     }
     let out = BufWriter::with_capacity(alloc, OUTPUT_ROOM, Output::new(*rt));
     let mut out = Printer::new(out.map_err(|_| Stop::Failed)?);
-    match run_session(rt, plan, stores, groups, commands.as_str(), sinks, &mut out) {
+    let blanks = (
+        Blank::new(stores.len() as u64),
+        Blank::new(plan.callers as u64),
+    );
+    let given = Given {
+        stores,
+        groups,
+        sinks,
+        commands,
+    };
+    match run_session::<D, Box<dyn Sink + Send>, Brand, Brand, R, Out>(
+        rt, threads, plan, given, blanks, &mut out,
+    ) {
         Ok(status) => Ok(status),
         Err(RunError::WriteFault) | Err(RunError::Memory) => Err(Stop::Failed),
-    }
-}
-
-// Runs the commands over a new world.
-fn run_session<D: Store, S: Sink, W: Write>(
-    rt: &HostRuntime,
-    plan: Plan,
-    stores: Vec<Counted<D>>,
-    groups: Vec<Group>,
-    commands: &str,
-    sinks: Vec<Vec<S>>,
-    out: &mut Printer<W>,
-) -> Result<Status, RunError>
-    requires some { 1 ≤ length stores.items }
-    requires shards { length stores.items ≤ most_shards }
-    requires lists { length sinks.items ≡ length groups.items }
-    requires fresh { AllByRecursion (λ own. AllByRecursion IsFresh (map S.state own.items)) sinks.items }
-    requires asked { map (λ own. map S.state own.items) sinks.items ≡ map (λ _. sinks_asked plan.sinks) groups.items }
-    ensures { IfOk result (IsRunOf S.state S.close_answers plan (map (λ store. D.seen store.inner) stores.items) groups.items commands.now out.old out.new) }
-{
-    let alloc = rt.alloc();
-    let shards = stores.len();
-    let engine = WorldEngine::open(alloc, plan.limits, stores, groups, sinks)?;
-    let engine = Counting::new(alloc, Pumping::new(engine, plan.pumps));
-    let mut session = Session::new(alloc, engine);
-    let ended = session.run_commands(commands, out);
-    let (engine, tally) = session.into_engine().into_parts();
-    let engine = engine.into_engine();
-    if plan.summary {
-        let _ = tally.print(rt);
-        let _ = print_rest(rt, engine.world(), shards);
-    }
-    drop_sinks(engine.into_books());
-    ended
-}
-
-// Prints which sinks are behind, and how many chunks were written and read.
-fn print_rest<D: Store, S: Sink>(
-    rt: &HostRuntime,
-    world: &World<Counted<D>, S>,
-    shards: usize,
-) -> io::Result<()> {
-    for group in 0..world.groups() {
-        if let Some(book) = world.book(group) {
-            print_behind(rt, book)?;
-        }
-    }
-    let mut written = 0u64;
-    let mut read = 0u64;
-    for number in 0..shards {
-        if let Some(shard) = world.shard(number) {
-            written = written.saturating_add(shard.store().written());
-            read = read.saturating_add(shard.store().read());
-        }
-    }
-    eprintln!(rt; "chunks: {written} written, {read} read")
-}
-
-// Prints which sinks of a group are behind, and by how many evaluations.
-fn print_behind<S: Sink>(rt: &HostRuntime, book: &Book<S>) -> io::Result<()> {
-    let group = book.group().name.as_str();
-    for number in 0..book.sinks() {
-        let taken = book.sink_count(number).unwrap_or(0);
-        let left = book.evaluations().saturating_sub(taken);
-        if left > 0 {
-            eprintln!(rt; "sink {number} of group {group}: behind by {left}")?;
-        }
-    }
-    Ok(())
-}
-
-// Drops the sinks of each book. Nothing else is taken apart: the process gives its memory back at once.
-fn drop_sinks<S: Sink>(books: Vec<Book<S>>) {
-    for book in books {
-        drop(book.into_sinks());
     }
 }

@@ -2,8 +2,7 @@
 ghost use Rattle.std.specs.Prelude.{◌≡◌, ◌≢◌, ◌≤◌, List, map, option_map, string_bytes, Ok, IfErr, IfOk};
 ghost use Rattle.std.specs.Option.{option_copied};
 ghost use Rattle.clap.specs.Words.{Text, app_of, first_of, found_of, one_of, rows_of, with_rule};
-ghost use Rattle.rl_world.specs.ShardAnswers.{most_shards};
-ghost use Rattle.rule_shell.specs.Options.{command_line, flag_rule, limits_of, number_or, number_asked, kinds_asked, option_rule, with_flags, with_options, AreChecked, AreOptions, AreOptionsIn, AreSinks, IsChecked, IsFlag, IsPlan};
+ghost use Rattle.rule_shell.specs.Options.{command_line, flag_rule, limits_of, number_or, number_asked, kinds_asked, option_rule, with_flags, with_options, AreChecked, AreOptions, AreOptionsIn, AreSinks, AreWithin, IsChecked, IsFlag, IsPlan};
 
 use crate::Stop;
 use clap::error::ErrorKind as OptionsFault;
@@ -15,8 +14,9 @@ use std::env;
 use std::io::ErrorKind;
 
 // Each has a value, and stands at most once.
-const OPTIONS: [&str; 10] = [
+const OPTIONS: [&str; 11] = [
     "shards",
+    "callers",
     "entries",
     "chunk-entries",
     "chunk-age",
@@ -31,12 +31,17 @@ const OPTIONS: [&str; 10] = [
 // Each has no value, and stands at most once.
 const FLAGS: [&str; 3] = ["pump", "summary", "new"];
 
-// The most shards, the most texts that may wait in a sink, and the most that a tail keeps; and how many where none is asked for.
+// The most shards and callers, the most texts that may wait in a sink, and the most that a tail keeps; and how many where none is
+// asked for.
 const MOST_SHARDS: u64 = 16;
+
+const MOST_CALLERS: u64 = 64;
 
 const MOST_WAITING: u64 = 1_048_576;
 
 const MOST_KEPT: u64 = 65_536;
+
+const CALLERS: u64 = 2;
 
 const WAITING: u64 = 1_024;
 
@@ -57,6 +62,7 @@ pub(crate) struct SinkOptions {
 #[derive(Clone, Copy)]
 pub(crate) struct Plan {
     pub(crate) limits: Limits,
+    pub(crate) callers: usize,
     pub(crate) sinks: SinkOptions,
     // After each evaluation the sinks of its group catch up.
     pub(crate) pumps: bool,
@@ -78,7 +84,7 @@ pub(crate) struct Options {
 /// Reads the options.
 pub(crate) fn read_options(rt: &HostRuntime) -> Result<Options, Stop>
     ensures asked { IfOk result (λ options. (words : List Text) × AreOptionsIn words (Ok options)) }
-    ensures within { IfOk result (λ options. (1 ≤ options.shards) × (options.shards ≤ most_shards)) }
+    ensures within { IfOk result (λ options. AreWithin options.shards options.plan.callers) }
 {
     let words: Vec<String> = words_of(rt)?;
     let words = words.as_slice();
@@ -97,7 +103,7 @@ fn words_of(rt: &HostRuntime) -> Result<Vec<String>, Stop> {
 // The options that the words ask for, of which the first is the program's name.
 fn options_in<'a>(alloc: Global, words: &'a [String]) -> Result<Options, Stop>
     ensures asked { AreOptionsIn (map string_bytes words.now) result }
-    ensures within { IfOk result (λ options. (1 ≤ options.shards) × (options.shards ≤ most_shards)) }
+    ensures within { IfOk result (λ options. AreWithin options.shards options.plan.callers) }
 {
     let command = command_line(alloc)?;
     match command.try_get_matches_from(words) {
@@ -182,7 +188,7 @@ fn stop_of(kind: OptionsFault) -> Stop
 
 fn options_of(alloc: Global, matches: &ArgMatches<'_>) -> Result<Options, Stop>
     ensures asked { AreOptions (rows_of (found_of matches.now)) result }
-    ensures within { IfOk result (λ options. (1 ≤ options.shards) × (options.shards ≤ most_shards)) }
+    ensures within { IfOk result (λ options. AreWithin options.shards options.plan.callers) }
 {
     let shards = number_in(matches, "shards", 1, MOST_SHARDS)?;
     let plan = plan_of(matches)?;
@@ -212,11 +218,14 @@ fn flag_in(matches: &ArgMatches<'_>, flag: &str) -> bool
 fn plan_of(matches: &ArgMatches<'_>) -> Result<Plan, Stop>
     ensures asked { IsPlan (rows_of (found_of matches.now)) result }
     ensures refuses { IfErr result (λ stop. stop ≡ Stop.BadOptions) }
+    ensures within { IfOk result (λ plan. (1 ≤ plan.callers) × (plan.callers ≤ 64)) }
 {
+    let callers = number_in(matches, "callers", CALLERS, MOST_CALLERS)?;
     let limits = limits_of(matches)?;
     let sinks = sinks_of(matches)?;
     Ok(Plan {
         limits,
+        callers,
         sinks,
         pumps: flag_in(matches, "pump"),
         summary: flag_in(matches, "summary"),

@@ -1,6 +1,6 @@
 //! What a run did, counted as its engine answers, and printed at the end.
 
-use rl_labels::{Entry, Ns};
+use rl_labels::Entry;
 use rl_plain::{PlainText, TryCopy};
 use rl_rules::{Cause, Evaluation, RuleOutcome};
 use rl_session::names::{push_refusal, refusal_name};
@@ -25,7 +25,8 @@ struct RuleFailures {
     group: PlainText,
     rule: PlainText,
     first: Cause,
-    t: Ns,
+    // In nanoseconds.
+    t: u64,
     times: u64,
 }
 
@@ -64,7 +65,7 @@ impl Tally {
     pub(crate) fn count_push(&mut self, answer: &Result<ShardReply, Refusal>) {
         match push_refusal(answer) {
             Some(name) => {
-                let _ = count_reason(&mut self.refused, name);
+                let _ = count_reason(&mut self.refused, name, 1);
             }
             None => self.accepted = self.accepted.saturating_add(1),
         }
@@ -75,14 +76,34 @@ impl Tally {
         self.evaluations = self.evaluations.saturating_add(1);
         for given in evaluation.outcomes.as_slice() {
             if let RuleOutcome::Failed(cause) = &given.outcome {
-                let _ = count_failure(&mut self.failures, evaluation, &given.name, *cause);
+                let of = (&evaluation.group, &given.name);
+                let first = (evaluation.t.get(), *cause);
+                let _ = count_failures(&mut self.failures, of, first, 1);
             }
         }
     }
 
     /// Counts an evaluation that was refused.
     pub(crate) fn count_refusal(&mut self, refusal: Refusal) {
-        let _ = count_reason(&mut self.unevaluated, refusal_name(refusal));
+        let _ = count_reason(&mut self.unevaluated, refusal_name(refusal), 1);
+    }
+
+    /// Adds what another caller's engine has counted.
+    pub(crate) fn add(&mut self, other: &Tally) {
+        self.accepted = self.accepted.saturating_add(other.accepted);
+        self.before_2000 = self.before_2000.saturating_add(other.before_2000);
+        self.evaluations = self.evaluations.saturating_add(other.evaluations);
+        for reason in &other.refused {
+            let _ = count_reason(&mut self.refused, reason.name.as_str(), reason.times);
+        }
+        for reason in &other.unevaluated {
+            let _ = count_reason(&mut self.unevaluated, reason.name.as_str(), reason.times);
+        }
+        for more in &other.failures {
+            let of = (&more.group, &more.rule);
+            let first = (more.t, more.first);
+            let _ = count_failures(&mut self.failures, of, first, more.times);
+        }
     }
 
     /// Prints what was counted.
@@ -109,41 +130,47 @@ impl Tally {
     }
 }
 
-// One refusal more for the reason.
-fn count_reason(reasons: &mut Vec<Reason>, name: &str) -> Result<(), AllocError> {
+// So many refusals more for the reason.
+fn count_reason(reasons: &mut Vec<Reason>, name: &str, times: u64) -> Result<(), AllocError> {
     for reason in reasons.iter_mut() {
         if reason.name.as_str() == name {
-            reason.times = reason.times.saturating_add(1);
+            reason.times = reason.times.saturating_add(times);
             return Ok(());
         }
     }
     let alloc = *reasons.allocator();
     let name = PlainText::from_str(alloc, name)?;
-    reasons.push(Reason { name, times: 1 })?;
+    reasons.push(Reason { name, times })?;
     Ok(())
 }
 
-// One failure more of the rule.
-fn count_failure(
+// So many failures more of the rule of the group, of which this is the first.
+fn count_failures(
     all: &mut Vec<RuleFailures>,
-    evaluation: &Evaluation,
-    rule: &PlainText,
-    cause: Cause,
+    of: (&PlainText, &PlainText),
+    first: (u64, Cause),
+    times: u64,
 ) -> Result<(), AllocError> {
+    let (group, rule) = of;
+    let (t, cause) = first;
     for failures in all.iter_mut() {
-        if is_of(failures, &evaluation.group, rule) {
-            failures.times = failures.times.saturating_add(1);
+        if is_of(failures, group, rule) {
+            failures.times = failures.times.saturating_add(times);
+            if t < failures.t {
+                failures.t = t;
+                failures.first = cause;
+            }
             return Ok(());
         }
     }
-    let group = evaluation.group.try_copy()?;
+    let group = group.try_copy()?;
     let rule = rule.try_copy()?;
     all.push(RuleFailures {
         group,
         rule,
         first: cause,
-        t: evaluation.t,
-        times: 1,
+        t,
+        times,
     })?;
     Ok(())
 }
@@ -182,7 +209,7 @@ fn print_failures(rt: &HostRuntime, failures: &RuleFailures) -> io::Result<()> {
     let times = failures.times;
     let group = failures.group.as_str();
     let rule = failures.rule.as_str();
-    let t = failures.t.get();
+    let t = failures.t;
     eprintln!(rt;
         "failures of rule {rule} of group {group}: {times}, the first at {t} with {:?}",
         failures.first

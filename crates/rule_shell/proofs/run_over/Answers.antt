@@ -41,7 +41,7 @@ loop-preserved g c =
     (search rules, rw (← c.in_ok-push-2.ensures.items) at more)
 
 pub run_session-requires-clause-fresh : goal.run_session-requires-clause-fresh
-run_session-requires-clause-fresh g c = all_fresh (ghosts (own-1, lawful-own-1, sends-own-1)).state c.args.plan.sinks c.loop.sinks.items c.loop.invariant.1
+run_session-requires-clause-fresh g c κs within = all_fresh (ghosts (own-1, lawful-own-1, sends-own-1)).state c.args.plan.sinks c.loop.sinks.items c.loop.invariant.1
 
 pub run_session-requires-clause-asked : goal.run_session-requires-clause-asked
-run_session-requires-clause-asked g c = all_asked (ghosts (own-1, lawful-own-1, sends-own-1)).state c.args.plan.sinks c.loop.sinks.items c.args.front.groups.items (search rules) c.loop.invariant.1
+run_session-requires-clause-asked g c κs within = all_asked (ghosts (own-1, lawful-own-1, sends-own-1)).state c.args.plan.sinks c.loop.sinks.items c.args.front.groups.items (search rules) c.loop.invariant.1
