@@ -1,25 +1,30 @@
 //! Command lines of a session, and why one is no command.
 
 use crate::waiting::Evaluations;
+use rl_labels::number_of;
 use rl_query::QueryError;
 use rl_rule_reports::{
     Findings, Location, OutOfMemory, Standing, is_near, push_name, push_query_fault, push_refusal,
 };
 use rl_rules::{Group, RulesError, read_rules};
 use rl_selector_text::parse_delete;
+use rl_session::command::cut_at;
 use rl_session::names::push_error_name;
-use rl_session::{Command, PushError, PushReader, read_command};
+use rl_session::{Command, PushError, PushReader, read_command, read_in_block};
 use std::alloc::Global;
 use std::fmt::Write;
 
 // The greatest number of a sink, where a group has sinks of all kinds.
 const LAST_SINK: usize = 2;
 
+// The greatest number of a caller.
+const LAST_CALLER: u64 = 63;
+
 // The longest word that is shown, in bytes.
 const LONGEST_WORD: usize = 60;
 
 // The words of the commands, and what each wants after it.
-const WANTED: [(&str, &str); 13] = [
+const WANTED: [(&str, &str); 14] = [
     ("push", "wants the JSON of a push"),
     ("cut", "stands alone"),
     ("flush", "stands alone"),
@@ -38,14 +43,17 @@ const WANTED: [(&str, &str); 13] = [
     ("eval", "wants a moment in seconds and the name of a group"),
     ("pump", "wants the name of a group"),
     ("show", "wants the number of a sink and the name of a group"),
+    ("par", "stands alone"),
     ("end", "stands alone"),
 ];
 
-/// What is known while commands are looked at: the groups, where the rules are taken, their evaluations, and the memory of a reader.
+/// What is known while commands are looked at: the groups, where the rules are taken, their evaluations, whether a block has begun,
+/// and the memory of a reader.
 #[derive(Drop)]
 pub(crate) struct Known<'a> {
     groups: Option<&'a [Group]>,
     evaluations: Evaluations<'a>,
+    in_block: bool,
     reader: PushReader,
 }
 
@@ -60,6 +68,7 @@ impl<'a> Known<'a> {
         Ok(Known {
             groups,
             evaluations,
+            in_block: false,
             reader: PushReader::new(alloc),
         })
     }
@@ -74,17 +83,11 @@ pub(crate) fn push_command(
 ) -> Result<bool, OutOfMemory> {
     let before = findings.count;
     let location = Location::whole(Some(number));
-    let ends = match read_command(line) {
-        Some(Command::End) => true,
-        // A block is for engines with callers, and the ruler's has none.
-        Some(Command::Par) | None => {
-            push_no_command(findings, &location, line)?;
-            false
-        }
-        Some(command) => {
-            push_asked(findings, known, &location, number, &command)?;
-            false
-        }
+    let ends = if known.in_block {
+        push_in_block(findings, known, &location, line)?;
+        false
+    } else {
+        push_outside(findings, known, &location, number, line)?
     };
     if findings.count > before && line.ends_with('\r') {
         findings.text.push_str(
@@ -92,6 +95,86 @@ pub(crate) fn push_command(
         )?;
     }
     Ok(ends)
+}
+
+// The faults of a line outside a block, and whether it ends the session.
+fn push_outside(
+    findings: &mut Findings,
+    known: &mut Known<'_>,
+    location: &Location<'_>,
+    number: usize,
+    line: &str,
+) -> Result<bool, OutOfMemory> {
+    match read_command(line) {
+        Some(Command::End) => return Ok(true),
+        Some(Command::Par) => known.in_block = true,
+        Some(command) => push_asked(findings, known, location, number, &command)?,
+        None => push_no_command(findings, location, line)?,
+    }
+    Ok(false)
+}
+
+// The faults of a line of a block, which it may end.
+fn push_in_block(
+    findings: &mut Findings,
+    known: &mut Known<'_>,
+    location: &Location<'_>,
+    line: &str,
+) -> Result<(), OutOfMemory> {
+    if line == "end" {
+        known.in_block = false;
+        return Ok(());
+    }
+    if let Some((word, command)) = cut_at(line, ' ') {
+        if is_caller(word) {
+            return push_of_caller(findings, known, location, command);
+        }
+    }
+    findings.begin(location)?;
+    writeln!(
+        findings.text,
+        "a line of a block begins with the number of a caller, from 0 to {}",
+        LAST_CALLER
+    )?;
+    Ok(())
+}
+
+fn is_caller(word: &str) -> bool {
+    number_of(word.as_bytes(), 19).is_some_and(|number| number <= LAST_CALLER)
+}
+
+// The faults of a caller's command in a block.
+fn push_of_caller(
+    findings: &mut Findings,
+    known: &mut Known<'_>,
+    location: &Location<'_>,
+    line: &str,
+) -> Result<(), OutOfMemory> {
+    match read_in_block(line) {
+        Some(command) => push_asked_in_block(findings, known, location, &command),
+        None if read_command(line).is_some() => {
+            let word = first_word(line);
+            findings.begin(location)?;
+            writeln!(findings.text, "no line of a block has {word}")?;
+            Ok(())
+        }
+        None => push_no_command(findings, location, line),
+    }
+}
+
+// The faults of what a command of a block asks for. Which of a block's evaluations is the last, no line says.
+fn push_asked_in_block(
+    findings: &mut Findings,
+    known: &mut Known<'_>,
+    location: &Location<'_>,
+    command: &Command<'_>,
+) -> Result<(), OutOfMemory> {
+    match *command {
+        Command::Push(body) => push_body(findings, known, location, body),
+        Command::Delete(ref deletion) => push_selector(findings, location, deletion.selector),
+        Command::Eval { group, .. } => push_unnamed(findings, known, location, group),
+        _ => Ok(()),
+    }
 }
 
 // The faults of what a command asks for.
@@ -226,10 +309,7 @@ fn push_no_command(
     location: &Location<'_>,
     line: &str,
 ) -> Result<(), OutOfMemory> {
-    let word = match line.split_once(' ') {
-        Some((word, _)) => word,
-        None => line,
-    };
+    let word = first_word(line);
     findings.begin(location)?;
     if word.is_empty() {
         findings.text.push_str("no command begins with a space\n")?;
@@ -241,6 +321,14 @@ fn push_no_command(
             Ok(())
         }
         None => push_no_word(&mut findings.text, word),
+    }
+}
+
+// A line up to its first space.
+fn first_word(line: &str) -> &str {
+    match line.split_once(' ') {
+        Some((word, _)) => word,
+        None => line,
     }
 }
 
