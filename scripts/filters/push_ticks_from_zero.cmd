@@ -1,0 +1,1 @@
+push_lines -t 1 '{app="a"}'

@@ -1,0 +1,1 @@
+push_lines --tick '0' '{app="a"}'

@@ -1,0 +1,1 @@
+push_lines --tick '86401' '{app="a"}'

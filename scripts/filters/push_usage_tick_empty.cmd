@@ -1,0 +1,1 @@
+push_lines --tick '' '{app="a"}'

@@ -1,0 +1,1 @@
+push_lines --tick '1m' '{app="a"}'
