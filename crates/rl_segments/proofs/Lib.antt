@@ -1,0 +1,9 @@
+pub mod Labels
+pub mod Readings
+pub mod Same
+pub mod Totals
+pub mod Turns
+pub mod WrittenFields
+pub mod WrittenFrames
+pub mod WrittenLabels
+pub mod WrittenRecords
