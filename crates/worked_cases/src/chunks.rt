@@ -27,8 +27,8 @@ fn of_bytes(output: &mut String, directive: &str, bytes: &[u8]) -> Result<(), Tr
     }
 }
 
-// The bytes of hexadecimal digits.
-fn bytes_in(alloc: Global, input: &str) -> Result<Vec<u8>, Trouble> {
+/// The bytes of hexadecimal digits.
+pub(crate) fn bytes_in(alloc: Global, input: &str) -> Result<Vec<u8>, Trouble> {
     let mut bytes = Vec::new(alloc);
     let mut high = None;
     for c in input.chars() {
