@@ -13,15 +13,18 @@ use Rattle.rl_workers.specs.Receipts.{PassView}
 use Rattle.rl_workers.specs.Rulers.{AreDecided, AreDecidedBy}
 use Rattle.rl_workers.specs.declared.fault.AllFault.{AllFault}
 use Rattle.rl_workers.specs.declared.fault.AllFault.TheVariants as all_faults
-use Rattle.rl_callers.specs.Callers.{AreAsked, decided_before, listed}
+use Rattle.rl_callers.specs.Callers.{AreAsked, listed, partly_of}
 use Rattle.rl_callers.specs.declared.caller.Listing.{Listing}
 
 -- a step that not all shards decided
-pub asked_partly : (shards : ℕ) (step : ShardStep) (old new : PassView) (fault : AllFault) (partly : Partly) → partly.done ≡ decided_before fault → AreDecided shards step old (Err fault) new → AreAsked shards old step (Err partly) new
-asked_partly shards step old new (all_faults.Partly done why) partly same decided = (decided.1, subst (λ n. AreDecidedBy n step old decided.1 new) (sym same) decided.2)
-asked_partly shards step old new all_faults.Memory partly same kept =
-    let none : AreDecidedBy 0 step old [] new = record { answers = []; replied = refl; each = refl; received = record { receipts = kept.receipts ∙ sym (append-nil old.receipts); notes = kept.notes } } in
-    ([], subst (λ n. AreDecidedBy n step old [] new) (sym same) none)
+pub asked_partly : (shards : ℕ) (step : ShardStep) (old new : PassView) (fault : AllFault) (partly : Partly) → partly ≡ partly_of fault → AreDecided shards step old (Err fault) new → AreAsked shards old step (Err partly) new
+asked_partly shards step old new fault partly same decided = let rest = by_fault fault same decided in (fault, same, rest.0, rest.1)
+  where
+    by_fault : (fault : AllFault) → partly ≡ partly_of fault → AreDecided shards step old (Err fault) new → (replies : List ShardReply) × AreDecidedBy partly.done step old replies new
+    by_fault (all_faults.Partly done why) same decided = (decided.1, subst (λ (other : Partly). AreDecidedBy other.done step old decided.1 new) (sym same) decided.2)
+    by_fault all_faults.Memory same kept =
+        let none : AreDecidedBy 0 step old [] new = record { answers = []; replied = refl; each = refl; received = record { receipts = kept.receipts ∙ sym (append-nil old.receipts); notes = kept.notes } } in
+        ([], subst (λ (other : Partly). AreDecidedBy other.done step old [] new) (sym same) none)
 
 -- the first refusal that is found
 pub first_found : (replies : List ShardReply) → find (λ reply. is_some (shard_refusal reply)) replies ≡ first_refused replies

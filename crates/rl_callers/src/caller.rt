@@ -4,7 +4,7 @@ ghost use Rattle.std.specs.List.{concat};
 ghost use Rattle.rl_session.specs.Engine.{number_named};
 ghost use Rattle.rl_session.specs.Printer.{Prints};
 ghost use Rattle.rl_session.specs.WorldEngine.{first_refused};
-ghost use Rattle.rl_callers.specs.Callers.{decided_before, listed, refusal_of_evaluation};
+ghost use Rattle.rl_callers.specs.Callers.{listed, partly_of, refusal_of_edit, refusal_of_evaluation, refusal_of_group};
 
 use rl_chunks::Store;
 use rl_labels::{Entry, Ns};
@@ -136,8 +136,7 @@ impl<'a, D: Store, S: Sink, L: Crew, P: Crew, R: Wait> Engine for Caller<'a, D, 
     fn catch_up(&mut self, group: usize) -> Result<PlainList<u64>, Refusal> {
         match self.ruler.catch_up(self.rt, group) {
             Ok(behind) => Ok(behind),
-            Err(GroupFault::NoSuch) => Err(Refusal::NoSuch),
-            Err(GroupFault::Memory) => Err(Refusal::Memory),
+            Err(fault) => Err(refusal_of_group(fault)),
         }
     }
 
@@ -180,7 +179,7 @@ fn first_refused(replies: PlainList<ShardReply>) -> Option<ShardReply>
 
 // Why not all shards decided a step, as a session prints it.
 fn partly_of(fault: AllFault) -> Partly
-    ensures { result.done ≡ decided_before fault }
+    ensures { result ≡ partly_of fault }
 {
     match fault {
         AllFault::Partly { done, fault } => Partly {
@@ -195,11 +194,23 @@ fn partly_of(fault: AllFault) -> Partly
 }
 
 // Why a group was not edited, as a session prints it.
-fn refusal_of_edit(fault: EditFault) -> Refusal {
+fn refusal_of_edit(fault: EditFault) -> Refusal
+    ensures { result ≡ refusal_of_edit fault }
+{
     match fault {
         EditFault::NoSuch => Refusal::NoSuch,
         EditFault::SessionFull => Refusal::Book(BookFault::SessionFull),
         EditFault::Memory => Refusal::Memory,
+    }
+}
+
+// Why the sinks of a group did not catch up, as a session prints it.
+fn refusal_of_group(fault: GroupFault) -> Refusal
+    ensures { result ≡ refusal_of_group fault }
+{
+    match fault {
+        GroupFault::NoSuch => Refusal::NoSuch,
+        GroupFault::Memory => Refusal::Memory,
     }
 }
 
