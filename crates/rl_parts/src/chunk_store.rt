@@ -1,5 +1,6 @@
 //! The chunks of a shard, each under a number of its own, in a store.
 ghost use Rattle.std.specs.Prelude.{◌≡◌, ◌+◌, ◌≤◌, List, ℕ, true, Ok, Err, Some, IfOk, IfErr, IsErrOf, MatchResult, OnErr, OnOk};
+ghost use Rattle.std.specs.Option.{option_map};
 ghost use Rattle.std.specs.FinMap as map;
 ghost use Rattle.sha2.specs.Sha256.{sha256};
 ghost use Rattle.rl_chunks.specs.ChunkText.{IsChunkText};
@@ -123,8 +124,8 @@ impl<S: Store> ChunkStore<S> {
         chunk_in(self.alloc, &bytes)
     }
 
-    // Puts bytes under the next number, and answers that. The greatest is not given.
-    pub(crate) fn put(&mut self, bytes: Vec<u8>) -> Result<u64, FlushFault>
+    /// Puts bytes under the next number, and answers that. The greatest is not given.
+    pub fn put(&mut self, bytes: Vec<u8>) -> Result<u64, FlushFault>
         ensures number { IfOk result (λ number. number ≡ self.old.next) }
         ensures there { OnOk result (map.get self.new.seen.blobs self.old.next ≡ Some bytes.items) }
         ensures next { MatchResult result (λ _. self.new.next ≡ self.old.next + 1) (λ _. self.new.next ≡ self.old.next) }
@@ -140,6 +141,15 @@ impl<S: Store> ChunkStore<S> {
         put_bytes(&mut self.store, number, bytes)?;
         self.next = number + 1;
         Ok(number)
+    }
+
+    /// What the number has in the store, if it has something. No digest is compared.
+    pub fn get(&mut self, number: u64) -> Result<Option<Vec<u8>>, StoreFault>
+        ensures found { self.old.seen.honest ≡ true → IfOk result (λ bytes. option_map (λ b. b.items) bytes ≡ map.get self.old.seen.blobs number) }
+        ensures reads { Reads self.old self.new }
+        ensures counted { self.new.seen.faults ≡ faults_after result self.old.seen.faults }
+    {
+        self.store.get(number)
     }
 
     /// Takes away what the number has. What the store refuses to take away may stay.

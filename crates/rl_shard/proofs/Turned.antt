@@ -18,6 +18,7 @@ use Rattle.rl_deletes.specs.declared.request.Request.{Request}
 use Rattle.rl_deletes.specs.declared.request.RequestStatus.{RequestStatus}
 use Rattle.rl_deletes.specs.declared.request.RequestStatus.TheVariants.{Cancelled}
 use Rattle.rl_parts.specs.StoreUse.{FaultsRise}
+use Rattle.rl_streams.specs.StreamRows.{AreGiven, numbers_in}
 use Rattle.rl_streams.specs.Rewritten.{with_faults, without, IsGone, Rewrites}
 use Rattle.rl_streams.specs.StreamsState.{Looks, StreamsView}
 use Rattle.rl_streams.specs.laws.HeldLaws.{keys-kept}
@@ -192,4 +193,5 @@ looked_rewrites old mid new look faults rewritten = record {
   counted = rewritten.counted ∙ ap (with_faults (length rewritten.refused)) faults;
   removed = λ number gone stays. rewritten.removed number (subst (λ rows. IsGone rows new.rows number) (sym look.rows) gone) stays;
   others = λ number apart stays. rewritten.others number (subst (λ n. (number < n) ⊎ (new.next ≤ number)) (sym look.next) apart) (λ gone. stays (subst (λ rows. IsGone rows new.rows number) look.rows gone)) ∙ ap (λ blobs. get blobs number) look.seen.blobs;
+  given = subst (λ n. AreGiven (numbers_in old.rows) n new.next (numbers_in new.rows)) look.next (subst (λ rows. AreGiven (numbers_in rows) mid.next new.next (numbers_in new.rows)) look.rows rewritten.given);
 }

@@ -1,5 +1,5 @@
 -- Streams that hold one entry more: in the stream of its labels, or in a new one.
-use Rattle.std.proofs.Common.{◌≡◌, ℕ, zero, suc, ◌<◌, max, Bool, true, false, cond, Some, None, Option, List, [], ◌∷◌, ◌++◌, length, slice_get, get_or, position, inl, inr, refl, sym, ap, subst, ◌∙◌, is_some, true≢false, append-nil, le_of_suc-le-suc, not-suc-le-zero, arith}
+use Rattle.std.proofs.Common.{◌≡◌, ℕ, zero, suc, ◌<◌, max, Bool, true, false, cond, Some, None, Option, List, [], ◌∷◌, ◌++◌, map, length, slice_get, get_or, position, inl, inr, refl, sym, ap, subst, ◌∙◌, is_some, true≢false, append-nil, le_of_suc-le-suc, not-suc-le-zero, arith}
 use Rattle.std.specs.Prelude.{◌+◌, ◌*◌, nat_lt, if◌then◌else◌}
 use Rattle.std.specs.List.{AllByRecursion, IsDistinct}
 use Rattle.std.specs.List.Sorted.{IsPermutation}
@@ -10,6 +10,7 @@ use Rattle.std.specs.Ordering.{is_eq, is_lt, nat_cmp}
 use Rattle.std.specs.Cmp.{Equal-is, tied_itself}
 use Rattle.std.specs.FinMap.{insert}
 use Rattle.std.proofs.lemmas.Bool.Decides.{nat_tests}
+use Rattle.std.proofs.lemmas.List.Concat.{flat_map-append}
 use Rattle.std.proofs.lemmas.List.Quantifiers.{position-Some}
 use Rattle.std.proofs.lemmas.Map.Keys.{ge_from_not_lt}
 use Rattle.indexmap.specs.IndexMap.{set_value_at, insert_entry}
@@ -22,12 +23,13 @@ use Rattle.rl_labels.specs.declared.limits.Limits.{Limits}
 use Rattle.rl_parts.specs.StreamParts.{StreamView, entries_of}
 use Rattle.rl_parts.specs.Changes.{IsStarted}
 use Rattle.rl_parts.specs.laws.NoteLaws.{notes-started}
-use Rattle.rl_streams.specs.StreamRows.{Row, joined, newest_in, newest_map, newest_at}
+use Rattle.rl_streams.specs.StreamRows.{Row, joined, newest_in, newest_map, newest_at, numbers_in, numbers_of}
 use Rattle.rl_streams.specs.RowSteps.{Gains, AreAdded, AreOthers, IsPositionOf}
 use Rattle.rl_streams.specs.StreamsState.{age_refusal, is_far_behind, half_second}
 use Rattle.rl_streams.specs.declared.refusal.AddRefusal.TheVariants.{Expired, TooFarBehind}
 use Rattle.rl_streams.proofs.Held.{held_at}
-use Rattle.rl_streams.proofs.RowChanges.{same_some, value_at, keys_push, keys_set, set_more, push_more, set_each_same, lookup_set, lookup_push}
+use Rattle.rl_streams.proofs.Kept.{numbers_sealed}
+use Rattle.rl_streams.proofs.RowChanges.{same_some, value_at, keys_push, keys_set, set_more, set_same, push_more, set_each_same, lookup_set, lookup_push}
 use Rattle.rl_streams.proofs.Steps.{inserted, streams_gained, streams_pushed}
 
 abbrev newest_by : StreamView → ℕ
@@ -65,6 +67,7 @@ added_at most rows i entry stream new apart at gains = record {
       one_set label_set_cmp_total label_set_cmp-IsAntisymmetric (newest_in rows) (newest_in (set_value_at rows i new)) entry.labels new.newest (λ q. lookup_set label_set_cmp_total label_set_cmp-IsAntisymmetric label_set_eq label_set_eq_itself newest_by rows i entry.labels stream new q apart at)
       ∙ ap (insert (newest_map (newest_in rows)) entry.labels) (gains.newest ∙ ap (λ newest. max newest entry.timestamp) (sym (newest_found rows i entry.labels stream apart at)));
   labels = ([], keys_set rows i new ∙ sym (append-nil (keys_of rows)));
+  numbers = set_same numbers_of rows i entry.labels stream new at (numbers_sealed stream new gains.parts);
   streams = λ chunks are is_new. streams_gained rows chunks are i entry.labels stream new at most entry refl gains (λ honest. sym (held_at entry rows i stream are.own are.apart at) ∙ is_new honest);
 }
 
@@ -77,6 +80,10 @@ added_after most rows entry stream others labels newest entries started = record
       one_set label_set_cmp_total label_set_cmp-IsAntisymmetric (newest_in rows) (newest_in (rows ++ (entry.labels, stream) ∷ [])) entry.labels stream.newest (λ q. lookup_push label_set_cmp_total label_set_cmp-IsAntisymmetric label_set_eq label_set_eq_itself newest_by rows entry.labels stream q others)
       ∙ ap (insert (newest_map (newest_in rows)) entry.labels) (newest ∙ raised_from_0 ∙ ap (λ before. max before entry.timestamp) (sym (newest_missing rows entry.labels others)));
   labels = (entry.labels ∷ [], keys_push rows (entry.labels, stream));
+  numbers =
+      flat_map-append (λ (row : Row). numbers_of row.1) rows ((entry.labels, stream) ∷ [])
+      ∙ ap (λ notes. numbers_in rows ++ (map (λ note. note.number) notes ++ [])) (notes-started most entry stream started)
+      ∙ append-nil (numbers_in rows);
   streams = λ chunks are is_new. streams_pushed rows chunks are entry stream others entries labels (notes-started most entry stream started);
 }
   where

@@ -1,12 +1,13 @@
 -- The numbers of chunks: those that are given are above all that were, so none stands twice.
-use Rattle.std.proofs.Common.{◌≡◌, ℕ, zero, suc, ◌+◌, ◌<◌, ◌≤◌, false, List, [], ◌∷◌, ◌++◌, ne_eqb, arith}
+use Rattle.std.proofs.Common.{◌≡◌, ◌⊎◌, inl, inr, ℕ, zero, suc, ◌+◌, ◌-◌, ◌<◌, ◌≤◌, Contains, false, List, [], ◌∷◌, ◌++◌, ne_eqb, arith}
 use Rattle.std.specs.Prelude.{nat_eq}
 use Rattle.std.specs.List.{AllByRecursion, IsDistinct, range_with_len}
+use Rattle.std.proofs.lemmas.List.Elements.{All-contains, All-from_recursion, Contains-append_cases}
 use Rattle.std.proofs.lemmas.Map.Keys.{IsDistinct-cons}
 use Rattle.rl_parts.specs.ChunksState.{ChunksView}
 use Rattle.rl_parts.specs.StoreUse.{AreKept}
 use Rattle.rl_parts.specs.laws.EachLaws.{all_both}
-use Rattle.rl_streams.specs.StreamRows.{Row, numbers_of, numbers_in}
+use Rattle.rl_streams.specs.StreamRows.{Row, numbers_of, numbers_in, AreGiven}
 use Rattle.rl_streams.proofs.Kept.{numbers_below}
 
 -- numbers in a row are above what is below them
@@ -29,3 +30,33 @@ row_apart next a (suc n) ys le below apart =
 pub all_below : (chunks : ChunksView) (rows : List Row) → AllByRecursion (λ row. AreKept chunks row.1) rows → AllByRecursion (λ number. number < chunks.next) (numbers_in rows)
 all_below chunks [] h = tt
 all_below chunks (row ∷ rows) h = all_both (λ number. number < chunks.next) (numbers_of row.1) (numbers_in rows) (numbers_below chunks row.1 h.0) (all_below chunks rows h.1)
+
+-- so the next one is none of them
+pub next_apart : (chunks : ChunksView) (rows : List Row) → AllByRecursion (λ row. AreKept chunks row.1) rows → Contains (numbers_in rows) chunks.next → ⊥
+next_apart chunks rows kept there =
+    let below : chunks.next < chunks.next = All-contains (λ number. number < chunks.next) (numbers_in rows) chunks.next (All-from_recursion (λ number. number < chunks.next) (numbers_in rows) (all_below chunks rows kept)) there in
+    omega (arith, below)
+
+row_within : (low high a n : ℕ) → low ≤ a → a + n ≤ high → AllByRecursion (λ y. (low ≤ y) × (y < high)) (range_with_len a n)
+row_within low high a zero from to = tt
+row_within low high a (suc n) from to = ((from, omega (arith, to)), row_within low high (a + 1) n (omega (arith, from)) (omega (arith, to)))
+
+-- each of these and of the numbers in a row from the first up to the next
+pub given_in : (old : List ℕ) (first next : ℕ) → first ≤ next → AreGiven old first next (range_with_len first (next - first) ++ old)
+given_in old first next up number there = by (Contains-append_cases (range_with_len first (next - first)) old number there)
+  where
+    by : Contains (range_with_len first (next - first)) number ⊎ Contains old number → Contains old number ⊎ ((first ≤ number) × (number < next))
+    by (inl new) = inr (All-contains (λ y. (first ≤ y) × (y < next)) (range_with_len first (next - first)) number (All-from_recursion (λ y. (first ≤ y) × (y < next)) (range_with_len first (next - first)) (row_within first next first (next - first) (omega arith) (omega (arith, up)))) new)
+    by (inr was) = inl was
+
+-- numbers that were given twice
+pub given_then : (a : List ℕ) (first : ℕ) (b : List ℕ) (middle : ℕ) (c : List ℕ) (last : ℕ) → first ≤ middle → middle ≤ last → AreGiven a first middle b → AreGiven b middle last c → AreGiven a first last c
+given_then a first b middle c last up more p q number there = by (q number there)
+  where
+    by : Contains b number ⊎ ((middle ≤ number) × (number < last)) → Contains a number ⊎ ((first ≤ number) × (number < last))
+    by (inl was) = or (p number was)
+      where
+        or : Contains a number ⊎ ((first ≤ number) × (number < middle)) → Contains a number ⊎ ((first ≤ number) × (number < last))
+        or (inl early) = inl early
+        or (inr new) = inr (new.0, omega (arith, new.1, more))
+    by (inr new) = inr (omega (arith, new.0, up), new.1)

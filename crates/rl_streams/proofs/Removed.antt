@@ -1,5 +1,5 @@
 -- What a store keeps of streams once numbers are removed that they no longer use.
-use Rattle.std.proofs.Common.{◌≡◌, ◌⊎◌, inl, inr, ◌||◌, ℕ, ◌-◌, cond, Contains, not, Bool, true, false, List, [], ◌∷◌, ◌++◌, map, length, Option, Some, None, refl, sym, ap, subst, ◌∙◌, arith, ◌+◌, ◌<◌, get_or, take, Result, Ok, Err, eq-eqb, eqb-true, true≢false}
+use Rattle.std.proofs.Common.{◌≡◌, ◌⊎◌, inl, inr, ◌||◌, ℕ, ◌-◌, cond, Contains, not, Bool, true, false, List, [], ◌∷◌, ◌++◌, map, length, Option, Some, None, refl, sym, ap, subst, ◌∙◌, arith, ◌+◌, ◌<◌, ◌≤◌, get_or, take, Result, Ok, Err, eq-eqb, eqb-true, true≢false}
 use Rattle.std.specs.Prelude.{IfErr, IfSome, OnErr, OnOk, nat_eq}
 use Rattle.std.specs.FinMap as finite
 use Rattle.std.specs.Cmp.{nat_eq_equiv, unsigned_tied}
@@ -7,7 +7,7 @@ use Rattle.std.proofs.lemmas.Cmp.{nat_cmp_total}
 use Rattle.std.proofs.lemmas.List.Elements.{All-contains, All-from_recursion, Contains-append_cases, Contains-append_left, Contains-append_right}
 use Rattle.std.proofs.lemmas.List.Folds.{list_any-append}
 use Rattle.std.proofs.lemmas.Map.Views.{Contains-from_any, list_any-from_Contains}
-use Rattle.std.proofs.lemmas.List.Sorted.{Contains-permutation, IsPermutation-sym}
+use Rattle.std.proofs.lemmas.List.Sorted.{Contains-permutation, IsPermutation-append_comm, IsPermutation-sym}
 use Rattle.rl_chunks.specs.StoreState.{KeepsReads, LeavesOthers, faults_after, with_fault}
 use Rattle.rl_chunks.specs.declared.store.StoreFault.{StoreFault}
 use Rattle.rl_chunks.specs.declared.store.StoreFault.TheVariants as stores
@@ -26,9 +26,9 @@ use Rattle.rl_parts.specs.laws.EachLaws.{all_after, all_front, take_next}
 use Rattle.rl_parts.specs.laws.RewriteLaws.{AreRenumbered-both}
 use Rattle.rl_parts.specs.laws.UseLaws.{with_fault-rises}
 use Rattle.rl_streams.specs.laws.HeldLaws.{none_ties}
-use Rattle.rl_streams.specs.StreamRows.{AreStreams, Row, joined, numbers_in}
+use Rattle.rl_streams.specs.StreamRows.{AreGiven, AreStreams, Row, joined, numbers_in}
 use Rattle.rl_streams.specs.Rewritten.{AreOf, ArePlanned, AreRemoved, IsGone, is_one_of, with_faults, numbers_before, numbers_after, numbers_gone, rewritten}
-use Rattle.rl_streams.proofs.Numbers.{all_below, row_apart}
+use Rattle.rl_streams.proofs.Numbers.{all_below, given_in, row_apart}
 use Rattle.rl_streams.proofs.Plans.{joined_rewritten, keys_rewritten, numbers_of_rows, numbers_rewritten, of_rows, own_rewritten, to_rows}
 
 distinct_front : (xs ys : List ℕ) → IsDistinct nat_eq (xs ++ ys) → IsDistinct nat_eq xs
@@ -156,6 +156,17 @@ module _ (covers : Entry → Bool) (rows : List Row) (before : ChunksView) (plan
           let there = Contains-permutation (planned.numbers.stay ++ range) (numbers_after plans) number (IsPermutation-sym _ _ planned.numbers.now) (Contains-append_left planned.numbers.stay range number stays) in
           absurd (lost.1 (subst (λ ns. Contains ns number) (sym (numbers_rewritten rows plans of)) there))
       by (inr there) = list_any-from_Contains nat_eq_equiv number (numbers_gone plans) there
+
+  -- where the numbers come from that are left
+  pub given_since : AreGiven (numbers_in rows) before.next seen.next (numbers_in (rewritten rows plans))
+  given_since number there =
+      let range = range_with_len before.next (seen.next - before.next) in
+      let after = Contains-permutation (numbers_after plans) (planned.numbers.stay ++ range) number planned.numbers.now (subst (λ ns. Contains ns number) (numbers_rewritten rows plans of) there) in
+      by (given_in planned.numbers.stay before.next seen.next planned.numbers.up number (Contains-permutation (planned.numbers.stay ++ range) (range ++ planned.numbers.stay) number (IsPermutation-append_comm planned.numbers.stay range) after))
+    where
+      by : Contains planned.numbers.stay number ⊎ ((before.next ≤ number) × (number < seen.next)) → Contains (numbers_in rows) number ⊎ ((before.next ≤ number) × (number < seen.next))
+      by (inl stays) = inl (subst (λ ns. Contains ns number) (sym (numbers_of_rows rows plans of)) (Contains-permutation (planned.numbers.stay ++ numbers_gone plans) (numbers_before plans) number (IsPermutation-sym _ _ planned.numbers.before) (Contains-append_left planned.numbers.stay (numbers_gone plans) number stays)))
+      by (inr new) = inr new
 
   pub streams_rewritten : AreStreams (rewritten rows plans) after
   streams_rewritten = record {

@@ -4,8 +4,9 @@ use Rattle.std.specs.Map.{values_of}
 use Rattle.indexmap.specs.IndexMap.{set_value_at}
 use Rattle.rl_parts.specs.StreamParts.{StreamView, entries_of}
 use Rattle.rl_parts.specs.Changes.{AreSealed}
-use Rattle.rl_streams.specs.StreamRows.{Row}
+use Rattle.rl_streams.specs.StreamRows.{Row, numbers_of}
 use Rattle.rl_streams.specs.RowSteps.{AreCut}
+use Rattle.rl_streams.proofs.Kept.{numbers_sealed}
 use Rattle.rl_streams.proofs.RowChanges.{with_key, set_by_row_same, set_same, set_each_same}
 use Rattle.rl_streams.proofs.Steps.{streams_sealed}
 
@@ -22,5 +23,6 @@ one_sealed first rows i stream new cut at labels newest entries parts =
       entries = set_same entries_of rows i row.0 stream new row.1 entries ∙ cut.entries;
       order = set_by_row_same entries_of rows i stream new at entries ∙ cut.order;
       newest = set_each_same (λ (s : StreamView). s.newest) rows i row.0 stream new row.1 newest ∙ cut.newest;
+      numbers = set_same numbers_of rows i row.0 stream new row.1 (numbers_sealed stream new parts) ∙ cut.numbers;
       streams = λ chunks are. streams_sealed rows chunks (cut.streams chunks are) i row.0 stream new row.1 labels entries parts;
     }

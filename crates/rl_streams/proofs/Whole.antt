@@ -17,10 +17,10 @@ use Rattle.rl_streams.specs.declared.refusal.AddRefusal.TheVariants.{Expired, To
 use Rattle.rl_labels.specs.declared.limits.Limits.{Limits}
 use Rattle.rl_parts.specs.ChunksState.{ChunksView}
 use Rattle.rl_streams.specs.StreamRows.{Row, joined, newest_in, newest_map, loose_in, unwritten_in, is_among}
-use Rattle.rl_streams.specs.StreamsState.{StreamsView, IsWhole, Cuts, Looks, Takes, IsDecided, age_refusal, view_of}
+use Rattle.rl_streams.specs.StreamsState.{StreamsView, IsWhole, Cuts, Flushes, Looks, Takes, IsDecided, age_refusal, view_of}
 use Rattle.rl_streams.specs.Found.{IsAnswered, IsAnsweredUnread, IsFound, IsMissing, IsSettled, IsSettledUnread}
 use Rattle.rl_streams.specs.HeldSet.{set_of}
-use Rattle.rl_streams.specs.RowSteps.{AreCut, AreAdded, IsOfferedRight}
+use Rattle.rl_streams.specs.RowSteps.{AreCut, AreAdded, AreFlushed, IsOfferedRight}
 use Rattle.rl_streams.proofs.Steps.{streams_kept}
 
 -- no streams
@@ -38,7 +38,11 @@ module _ (limits : Limits) (chunks : ChunksView) (count : ℕ) (old new : List R
   cut_whole whole = record { streams = cut.streams chunks whole.streams; counted = whole.counted ∙ ap length (sym cut.entries); room = whole.room }
 
   pub cut_view : Cuts (view_of limits old chunks) (view_of limits new chunks)
-  cut_view = record { limits = refl; held = ap set_of cut.entries; newest = ap newest_map cut.newest; next = refl; order = cut.order; seen = refl }
+  cut_view = record { limits = refl; held = ap set_of cut.entries; newest = ap newest_map cut.newest; next = refl; order = cut.order; numbers = cut.numbers; seen = refl }
+
+-- streams whose parts were written
+pub flush_view : (limits : Limits) (old new : List Row) (before after : ChunksView) → AreFlushed old before new after → Flushes (view_of limits old before) (view_of limits new after)
+flush_view limits old new before after flushed = record { limits = refl; held = ap set_of flushed.entries; newest = ap newest_map flushed.newest; next = flushed.up; loose = ap length flushed.loose; order = flushed.order; numbers = flushed.counted; given = flushed.given }
 
 -- looks, one after another
 pub looks_then : (a b c : StreamsView) → Looks a b → Looks b c → Looks a c
@@ -123,7 +127,7 @@ module _ (limits : Limits) (rows new : List Row) (old now : ChunksView) (count :
         }
 
     pub taken_view : AreAdded limits.chunk_entries rows entry new → Takes (view_of limits rows old) entry (view_of limits new now)
-    taken_view added = record { limits = refl; held = set-permuted entry_cmp_total entry_cmp-IsAntisymmetric (entry ∷ joined rows) (joined new) added.entries; newest = added.newest; next = looked.next; rows = added.rows; seen = looked.seen }
+    taken_view added = record { limits = refl; held = set-permuted entry_cmp_total entry_cmp-IsAntisymmetric (entry ∷ joined rows) (joined new) added.entries; newest = added.newest; next = looked.next; rows = added.rows; numbers = added.numbers; seen = looked.seen }
 
     -- what was decided, where it was refused
     pub decided_refused : (refusal : AddRefusal) (is_full : Bool) (to : StreamsView) → old.seen.honest ≡ true → IsOfferedRight (Err refusal) (is_among entry (joined rows)) → IsAnswered (Err refusal) (IsFound rows entry) (IsMissing rows entry) is_full → is_full ≡ nat_le limits.entries count → IsDecided (Err refusal) (view_of limits rows old) entry to

@@ -11,14 +11,14 @@ use Rattle.rl_parts.specs.ChunksState.{ChunksView}
 use Rattle.rl_parts.specs.StreamParts.{StreamView, entries_of}
 use Rattle.rl_parts.specs.StoreUse.{AreKept, FaultsRise, Grown}
 use Rattle.rl_parts.specs.Rewriting.{AreLeft, AreRenumbered, PlanView, note_numbers, uncovered}
-use Rattle.rl_streams.specs.StreamRows.{Row, numbers_in}
+use Rattle.rl_streams.specs.StreamRows.{Row, numbers_in, AreGiven}
 use Rattle.rl_streams.specs.StreamsState.{StreamsView}
 
 -- the entries of a set that are not covered
 abbrev pub without : (Entry → Bool) → EntrySet → EntrySet
 without covers held = retain_keys held (λ entry. not (covers entry))
 
--- a call that was refused, and may have put chunks that are not used under numbers from the next one on
+-- a call that changes nothing that is held, and may have put bytes that no part has under numbers from the next one on
 pub record Stays (old new : StreamsView) : Type 0 where
   pub limits : new.limits ≡ old.limits
   pub held : new.held ≡ old.held
@@ -43,7 +43,8 @@ abbrev pub is_one_of : List ℕ → ℕ → Bool
 is_one_of numbers number = list_any (nat_eq number) numbers
 
 -- a call that removes entries: the newest timestamps stay. What the store had of parts that were given up is removed, but for what
--- it refused to remove, each with one fault more; and nothing else changes below the numbers that were given
+-- it refused to remove, each with one fault more; and nothing else changes below the numbers that were given. Each part has its number
+-- from before, or one of these
 pub record Rewrites (old new : StreamsView) : Type 0 where
   pub limits : new.limits ≡ old.limits
   pub newest : new.newest ≡ old.newest
@@ -54,6 +55,7 @@ pub record Rewrites (old new : StreamsView) : Type 0 where
   pub counted : new.seen.faults ≡ with_faults (length refused) old.seen.faults
   pub removed : (number : ℕ) → IsGone old.rows new.rows number → is_one_of refused number ≡ false → finite.get new.seen.blobs number ≡ None
   pub others : (number : ℕ) → (number < old.next) ⊎ (new.next ≤ number) → (IsGone old.rows new.rows number → ⊥) → finite.get new.seen.blobs number ≡ finite.get old.seen.blobs number
+  pub given : AreGiven (numbers_in old.rows) old.next new.next (numbers_in new.rows)
 
 -- what each plan keeps of its stream
 pub record IsSound (plan : PlanView) : Type 0 where

@@ -11,7 +11,7 @@ use Rattle.rl_parts.specs.ChunksState.{ChunksView}
 use Rattle.rl_parts.specs.StreamParts.{StreamView, entries_of}
 use Rattle.rl_parts.specs.Changes.{IsStarted, IsInserted, IsHeld, AreSealed}
 use Rattle.rl_parts.specs.declared.fault.ReadFault.TheVariants as reads
-use Rattle.rl_streams.specs.StreamRows.{Row, joined, by_stream, newest_in, loose_in, unwritten_in, newest_map, raised, is_among, AreStreams}
+use Rattle.rl_streams.specs.StreamRows.{Row, joined, by_stream, newest_in, loose_in, unwritten_in, newest_map, numbers_in, raised, is_among, AreGiven, AreStreams}
 use Rattle.rl_streams.specs.declared.refusal.AddRefusal.{AddRefusal}
 use Rattle.rl_streams.specs.declared.refusal.AddRefusal.TheVariants.{Expired, TooFarBehind, Full, Read}
 
@@ -28,6 +28,7 @@ pub record AreCut (old new : List Row) : Type 0 where
   pub entries : joined new ≡ joined old
   pub order : by_stream new ≡ by_stream old
   pub newest : newest_in new ≡ newest_in old
+  pub numbers : numbers_in new ≡ numbers_in old
   pub streams : (chunks : ChunksView) → AreStreams old chunks → AreStreams new chunks
 
 -- streams that hold what they held, over chunks that have more of their parts
@@ -37,7 +38,8 @@ pub record AreFlushed (old : List Row) (before : ChunksView) (new : List Row) (a
   pub newest : newest_in new ≡ newest_in old
   pub loose : loose_in new ≡ loose_in old
   pub up : before.next ≤ after.next
-  pub numbers : after.next + length (unwritten_in new) ≡ before.next + length (unwritten_in old)
+  pub counted : after.next + length (unwritten_in new) ≡ before.next + length (unwritten_in old)
+  pub given : AreGiven (numbers_in old) before.next after.next (numbers_in new)
   pub streams : AreStreams old before → AreStreams new after
 
 -- the stream has taken the entry, where a part has at most so many
@@ -83,6 +85,7 @@ pub record AreAdded (most : ℕ) (old : List Row) (entry : Entry) (new : List Ro
   pub entries : IsPermutation (entry ∷ joined old) (joined new)
   pub newest : newest_map (newest_in new) ≡ raised (newest_map (newest_in old)) entry.labels entry.timestamp
   pub labels : (more : List LabelSet) × (keys_of new ≡ keys_of old ++ more)
+  pub numbers : numbers_in new ≡ numbers_in old
   pub streams : (chunks : ChunksView) → AreStreams old chunks → (chunks.seen.honest ≡ true → is_among entry (joined old) ≡ false) → AreStreams new chunks
 
 -- where there is one more entry, the streams hold it too, and else they are as they were

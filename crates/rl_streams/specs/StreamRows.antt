@@ -1,6 +1,6 @@
 -- The streams of a shard as a list of rows, each a stream under its labels: what they hold together, and what is always true of them.
-use Rattle.std.specs.Prelude.{◌≡◌, ℕ, max, nat_eq, Bool, true, List, map}
-use Rattle.std.specs.List.{All, AllByRecursion, IsDistinct, filter, flat_map, list_any}
+use Rattle.std.specs.Prelude.{◌≡◌, ℕ, ◌<◌, ◌≤◌, ◌⊎◌, max, nat_eq, Bool, true, List, map}
+use Rattle.std.specs.List.{All, AllByRecursion, Contains, IsDistinct, filter, flat_map, list_any}
 use Rattle.std.specs.Map.{keys_of}
 use Rattle.std.specs.Option.{unwrap_or, is_none}
 use Rattle.std.specs.FinMap.{FinMap, get, insert, from_entries}
@@ -47,6 +47,10 @@ numbers_of stream = map (λ note. note.number) (notes_of stream.parts)
 
 abbrev pub numbers_in : List Row → List ℕ
 numbers_in rows = flat_map (λ row. numbers_of row.1) rows
+
+-- each number was one of these, or is from the first up to the next
+abbrev pub AreGiven : List ℕ → ℕ → ℕ → List ℕ → Type 0
+AreGiven old first next new = (number : ℕ) → Contains new number → Contains old number ⊎ ((first ≤ number) × (number < next))
 
 -- the entries that are not sealed yet
 abbrev pub loose_in : List Row → List Entry

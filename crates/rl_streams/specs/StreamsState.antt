@@ -16,7 +16,7 @@ use Rattle.rl_parts.specs.StreamParts.{stream_code}
 use Rattle.rl_parts.specs.StoreUse.{Looked, read_faults}
 use Rattle.rl_parts.specs.declared.fault.ReadFault.TheVariants as reads
 use Rattle.rl_streams.specs.HeldSet.{set_of}
-use Rattle.rl_streams.specs.StreamRows.{Row, joined, by_stream, newest_in, loose_in, unwritten_in, newest_map, newest_at, raised, AreStreams}
+use Rattle.rl_streams.specs.StreamRows.{Row, joined, by_stream, newest_in, loose_in, unwritten_in, newest_map, newest_at, numbers_in, raised, AreGiven, AreStreams}
 use Rattle.rl_streams.specs.RowSteps.{IsTakenBy}
 use Rattle.rl_streams.specs.declared.refusal.AddRefusal.{AddRefusal}
 use Rattle.rl_streams.specs.declared.refusal.AddRefusal.TheVariants.{Expired, TooFarBehind, Full, Read}
@@ -97,6 +97,7 @@ pub record Cuts (old new : StreamsView) : Type 0 where
   pub newest : new.newest ≡ old.newest
   pub next : new.next ≡ old.next
   pub order : order_of new ≡ order_of old
+  pub numbers : numbers_in new.rows ≡ numbers_in old.rows
   pub seen : new.seen ≡ old.seen
 
 -- the entry is held with the others, and its stream's newest timestamp is raised to its own
@@ -106,6 +107,7 @@ pub record Takes (old : StreamsView) (entry : Entry) (new : StreamsView) : Type 
   pub newest : new.newest ≡ raised old.newest entry.labels entry.timestamp
   pub next : new.next ≡ old.next
   pub rows : IsTakenBy old.limits.chunk_entries old.rows entry new.rows
+  pub numbers : numbers_in new.rows ≡ numbers_in old.rows
   pub seen : Looked old.seen new.seen
 
 -- a call that gives numbers to parts, from the next one on
@@ -116,8 +118,9 @@ pub record Flushes (old new : StreamsView) : Type 0 where
   pub next : old.next ≤ new.next
   pub loose : new.loose ≡ old.loose
   pub order : order_of new ≡ order_of old
-  -- each number was given to one part
+  -- each number was given to one part, and no other number to any
   pub numbers : new.next + new.unwritten ≡ old.next + old.unwritten
+  pub given : AreGiven (numbers_in old.rows) old.next new.next (numbers_in new.rows)
 
 -- faults after an entry was refused so: one more where the device failed
 abbrev pub add_faults : AddRefusal → ℕ → ℕ

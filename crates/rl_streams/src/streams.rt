@@ -1,6 +1,8 @@
 //! All streams of a shard.
-ghost use Rattle.std.specs.Prelude.{◌≡◌, ◌+◌, ◌<◌, ◌≤◌, ◌++◌, [], ◌∷◌, length, true, false, None, Ok, Err, IfOk, IsErrOf, MatchOption, OnErr, OnOk};
-ghost use Rattle.rl_chunks.specs.StoreState.{greatest};
+ghost use Rattle.std.specs.Prelude.{◌≡◌, ◌+◌, ◌<◌, ◌≤◌, ◌++◌, [], ◌∷◌, length, true, false, None, Some, Ok, Err, IfOk, IsErrOf, MatchOption, MatchResult, OnErr, OnOk};
+ghost use Rattle.std.specs.List.{Contains};
+ghost use Rattle.std.specs.Option.{option_map};
+ghost use Rattle.rl_chunks.specs.StoreState.{faults_after, greatest};
 
 use crate::adding::{Room, adopted, age_refusal, position_of, put};
 use crate::cursor::Cursor;
@@ -9,7 +11,7 @@ use crate::refusal::AddRefusal;
 use crate::selections::Selections;
 use crate::{cutting, flushing, reading, rewriting};
 use indexmap::IndexMap;
-use rl_chunks::Store;
+use rl_chunks::{Store, StoreFault};
 use rl_labels::{Covers, Entry, Labels, Limits, Matcher, Ns, SelectorCode, TimeRange};
 use rl_parts::{ChunkStore, FlushFault, ReadFault, RewriteFault, Stream, Visitor};
 use rl_plain::{PlainList, Shared};
@@ -51,6 +53,7 @@ impl<S: Store> Streams<S> {
     ghost use Rattle.rl_streams.specs.Asking.{AreVisited, AreVisitedOnce, NoneSelected, visited_at};
     ghost use Rattle.rl_streams.specs.CursorState.{left_in, AreAsked};
     ghost use Rattle.rl_streams.specs.Found.{IsFound, IsMissing, IsUnreached, IsSettled, IsSettledUnread};
+    ghost use Rattle.rl_streams.specs.StreamRows.{numbers_in};
     ghost use Rattle.rl_streams.specs.StreamsState.{no_streams, age_refusal, order_of, after_add, Cuts, Flushes, IsDecided, Looks};
 
     /// Streams that hold nothing. The first number is that of the limits.
@@ -179,6 +182,30 @@ impl<S: Store> Streams<S> {
         rewriting::carry_out_all(&mut self.chunks, &mut self.streams, plans);
         self.count = rewriting::count(&self.streams, self.count);
         Ok(())
+    }
+
+    /// Puts bytes beside the chunks, under the next number, which it answers. Nothing changes of what is held. Under that number
+    /// they stay, whatever is flushed or removed after it.
+    pub fn put_blob(&mut self, bytes: Vec<u8>) -> Result<u64, FlushFault>
+        ensures number { IfOk result (λ number. number ≡ self.old.next) }
+        ensures there { OnOk result (get self.new.seen.blobs self.old.next ≡ Some bytes.items) }
+        ensures apart { Contains (numbers_in self.new.rows) self.old.next → ⊥ }
+        ensures same { Stays self.old self.new }
+        ensures next { MatchResult result (λ _. self.new.next ≡ self.old.next + 1) (λ _. self.new.next ≡ self.old.next) }
+        ensures counted { self.new.seen.faults ≡ after_flush result self.old.seen.faults }
+        ensures spent_first { self.old.next ≡ greatest → (result ≡ Err FlushFault.NumbersSpent) × (self.new ≡ self.old) }
+        ensures spent { IsErrOf result FlushFault.NumbersSpent → self.new.next ≡ greatest }
+    {
+        self.chunks.put(bytes)
+    }
+
+    /// What the number has in the store, if it has something. No digest is compared.
+    pub fn get_blob(&mut self, number: u64) -> Result<Option<Vec<u8>>, StoreFault>
+        ensures found { self.old.seen.honest ≡ true → IfOk result (λ bytes. option_map (λ b. b.items) bytes ≡ get self.old.seen.blobs number) }
+        ensures same { Looks self.old self.new }
+        ensures counted { self.new.seen.faults ≡ faults_after result self.old.seen.faults }
+    {
+        self.chunks.get(number)
     }
 
     /// Whether the entry is held. Where no stream has its labels, nothing is read. A store that is not honest may hide an

@@ -2,8 +2,8 @@
 //!
 //! The first line of an input has limits by their names, and after a `|` how reads of the store are spoilt: `0=gone` and
 //! `1=flip:9`, `2=cut:3`, `3=swap:7`. Each line after it is a call: `push` and `holds` with an entry, `horizon` with a
-//! moment, `cut`, `flush`, `len`, `reads`, `chunks`, `each` with labels and two moments, `walk` with labels, by a cursor, and
-//! `windows`, which are built.
+//! moment, `cut`, `flush`, `len`, `reads`, `chunks`, `put` with a text, `get` with a number, `each` with labels and two
+//! moments, `walk` with labels, by a cursor, and `windows`, which are built.
 use crate::given::{Read, entry_in, limits_in, list_in, moment_in, number_in, words_of};
 use crate::output::push_value;
 use crate::streams_random::random;
@@ -97,6 +97,8 @@ fn call(
         "len" => push_value(output, &streams.len()),
         "chunks" => push_value(output, &streams.store().inner().len()),
         "reads" => push_value(output, &streams.store().inner().reads()),
+        "put" => put(output, streams, rest),
+        "get" => get(output, streams, rest),
         "each" => each(output, streams, rest),
         "walk" => walk(output, streams, rest),
         "windows" => push_windows(output, streams, rest),
@@ -125,6 +127,25 @@ fn push_ended<F: Display>(output: &mut String, ended: &Result<(), F>) -> Result<
     match ended {
         Ok(()) => push_value(output, &"ok"),
         Err(fault) => push_value(output, fault),
+    }
+}
+
+fn put(output: &mut String, streams: &mut Asked, text: &str) -> Result<(), Trouble> {
+    let bytes = Vec::from_slice(*output.allocator(), text.as_bytes())?;
+    match streams.put_blob(bytes) {
+        Ok(number) => push_value(output, &number),
+        Err(fault) => push_value(output, &fault),
+    }
+}
+
+fn get(output: &mut String, streams: &mut Asked, number: &str) -> Result<(), Trouble> {
+    match streams.get_blob(number_in(number)?) {
+        Ok(Some(bytes)) => {
+            let text = str::from_utf8(&bytes).or(Err(Trouble::BadInput))?;
+            push_value(output, &text)
+        }
+        Ok(None) => push_value(output, &"nothing"),
+        Err(fault) => push_value(output, &fault),
     }
 }
 

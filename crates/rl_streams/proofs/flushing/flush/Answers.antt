@@ -1,13 +1,13 @@
 -- Each turn writes the parts of one stream, or some of them.
-use Rattle.std.proofs.Common.{◌≡◌, ◌+◌, filter, ◌∙◌, get_or, arith}
+use Rattle.std.proofs.Common.{◌≡◌, ◌+◌, filter, refl, ◌∙◌, get_or, arith}
 use Rattle.std.proofs.lemmas.Result.{err_from_is_err_and}
 use Rattle.std.specs.Option.{is_none}
 use Rattle.rl_parts.specs.StreamParts.{StreamView}
 use Rattle.rl_parts.specs.Changes.{unwritten_count}
-use Rattle.rl_parts.specs.laws.UseLaws.{Keeps-put, Puts-then}
+use Rattle.rl_parts.specs.laws.UseLaws.{Keeps-put, Puts-none, Puts-then}
 use Rattle.rl_streams.specs.StreamRows.{Row}
 use Rattle.rl_streams.proofs.RowChanges.{length_set, set_up_to, none_left, with_key}
-use Rattle.rl_streams.proofs.Written.{one_written, no_parts}
+use Rattle.rl_streams.proofs.Written.{none_written, one_written, no_parts}
 use Rattle.rl_streams.proofs.flushing.flush.Goals as goal
 
 pub returns-in_err-flush-clause-flushed : goal.returns-in_err-flush-clause-flushed
@@ -16,6 +16,15 @@ returns-in_err-flush-clause-flushed g c =
     let done = c.flush.ensures in
     one_written c.args.streams.now.entries c.args.chunks.now loop.streams.entries loop.chunks loop.position c.index_mut.result.now c.flush.new.self c.flush.new.chunks
     loop.invariant.flushed c.index_mut.ensures.value done.labels done.newest done.head done.entries done.parts done.counted_parts done.kept (Keeps-put c.flush.result loop.chunks c.flush.new.chunks done.puts)
+
+pub loop-position-init : goal.loop-position-init
+loop-position-init g c = record {
+  flushed = none_written c.args.streams.now.entries c.args.chunks.now;
+  puts = Puts-none c.args.chunks.now c.args.chunks.now.next;
+  faults = refl;
+  many = refl;
+  all = λ k d low high. absurd (omega (arith, high));
+}
 
 pub loop-position-preserved : goal.loop-position-preserved
 loop-position-preserved g c =
