@@ -8,6 +8,7 @@
 pub mod fault;
 mod fields;
 mod frames;
+pub mod in_memory;
 mod label_text;
 pub mod record;
 mod replies;
@@ -15,5 +16,6 @@ pub mod segment;
 mod steps;
 
 pub use fault::{RecordError, RecordFault};
+pub use in_memory::is_in_memory;
 pub use record::record_read;
 pub use segment::{record_at, segment_bytes};
