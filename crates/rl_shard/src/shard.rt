@@ -2,6 +2,7 @@
 ghost use Rattle.std.specs.Prelude.{◌≡◌, ◌+◌, ◌≤◌, ◌++◌, ◌∷◌, [], ℕ, List, false, IsTrue, Err, Some, length, map, slice_get, IfOk, IfErr, OnOk, OnErr};
 ghost use Rattle.rl_records.specs.RecordBytes.{digest_of};
 
+use crate::digested::Digested;
 use crate::parts::ShardParts;
 use crate::step::ShardFault;
 use rl_chunks::Store;
@@ -9,7 +10,7 @@ use rl_labels::{Limits, Ns};
 use rl_pipeline::Meter;
 use rl_plain::{PlainList, TryCopy};
 use rl_query::Term;
-use rl_records::{Record, ShardReply, ShardStep, digest_of};
+use rl_records::{Record, ShardReply, ShardStep};
 use std::alloc::{AllocError, Global};
 use std::marker::Model;
 
@@ -17,7 +18,7 @@ use std::marker::Model;
 #[derive(Drop)]
 pub struct Shard<S: Store> {
     parts: ShardParts<S>,
-    journal: Vec<Record>,
+    journal: Vec<Digested>,
 }
 
 impl<S: Store> Model for Shard<S> {
@@ -82,7 +83,7 @@ impl<S: Store> Shard<S> {
         ensures same { self.new ≡ self.old }
     {
         match self.journal.get(place as usize) {
-            Some(found) => Ok(Some(found.try_copy()?)),
+            Some(found) => Ok(Some(found.record().try_copy()?)),
             None => Ok(None),
         }
     }
@@ -101,7 +102,7 @@ impl<S: Store> Shard<S> {
         ensures { result ≡ last_digest self.now.journal }
     {
         let last = self.journal.last()?;
-        Some(digest_of(last))
+        Some(last.digest())
     }
 
     /// Whether the journal has reached its limit of records.
@@ -167,18 +168,18 @@ impl<S: Store> Shard<S> {
         self.journal.reserve(1)?;
         let decision = self.parts.decide(step)?;
         let place = self.journal.len() as u64;
-        self.journal.push_reserved(decision.kept);
+        self.journal.push_reserved(Digested::new(decision.kept));
         Ok((place, decision.reply))
     }
 }
 
 // The digest of each record.
-fn digests_of(alloc: Global, journal: &[Record]) -> Result<Vec<[u8; 32]>, AllocError>
+fn digests_of(alloc: Global, journal: &[Digested]) -> Result<Vec<[u8; 32]>, AllocError>
     ensures { IfOk result (λ digests. digests.items ≡ map digest_of journal.now) }
 {
     let mut digests = Vec::with_capacity(alloc, journal.len())?;
     for one in journal {
-        digests.push(digest_of(one))?;
+        digests.push(one.digest())?;
     }
     Ok(digests)
 }
